@@ -79,7 +79,7 @@ fn counted_up<R: Wait>(
 ) -> anyhow::Result<WriteTx>
     requires { seat.old.lock ≡ sal.now }
     ensures same { Keeps sal.now seat.old seat.new }
-    ensures token { IfOk result (λ tx. IsBegun (known seat.new.view) tx.begun tx.base) }
+    ensures token { IfOk result (λ tx. IsBegun (known seat.new.view) tx.begun tx.mode tx.base) }
 {
     let mut tx = begin(rt, alloc, sal, seat)?;
     counter.count_up(alloc, &mut tx)?;
@@ -95,7 +95,7 @@ fn finish<R: Wait>(
     tx: WriteTx,
 ) -> anyhow::Result<bool>
     requires seat { seat.old.lock ≡ sal.now }
-    requires token { IsBegun (known seat.old.view) tx.begun tx.base }
+    requires token { IsBegun (known seat.old.view) tx.begun tx.mode tx.base }
     ensures { Keeps sal.now seat.old seat.new }
 {
     let receipt = submit(rt, alloc, sal, seat, tx)?;
@@ -115,7 +115,7 @@ fn is_done(outcome: &Outcome) -> anyhow::Result<bool> {
 fn begin<R: Wait>(rt: &R, alloc: Global, sal: &Sal, seat: &mut Seat) -> anyhow::Result<WriteTx>
     requires { seat.old.lock ≡ sal.now }
     ensures same { Keeps sal.now seat.old seat.new }
-    ensures token { IfOk result (λ tx. IsBegun (known seat.new.view) tx.begun tx.base) }
+    ensures token { IfOk result (λ tx. IsBegun (known seat.new.view) tx.begun tx.mode tx.base) }
 {
     match sal.begin(rt, alloc, seat, 0, Mode::Rw)? {
         Tx::Write(tx) => Ok(tx),
@@ -132,7 +132,7 @@ fn submit<R: Wait>(
     tx: WriteTx,
 ) -> anyhow::Result<Receipt>
     requires seat { seat.old.lock ≡ sal.now }
-    requires token { IsBegun (known seat.old.view) tx.begun tx.base }
+    requires token { IsBegun (known seat.old.view) tx.begun tx.mode tx.base }
     ensures same { Keeps sal.now seat.old seat.new }
     ensures given { IfOk result (IsGiven (known seat.new.view)) }
 {

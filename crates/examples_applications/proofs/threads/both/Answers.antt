@@ -1,7 +1,7 @@
 use denote.Param.Send.{IsSync, given_sync, sendable}
 use Rattle.std.proofs.Crossing.{crosses}
 use Rattle.anyhow.proofs.error.Error.TheSendSync as Error
-use Rattle.examples_applications.proofs.counter.Counter.TheSendSync as Counter
+use Rattle.examples_counter.proofs.counter.Counter.TheSendSync as Counter
 use Rattle.sal.proofs.Sendable.{Seat-send, Sal-sync}
 use Rattle.examples_applications.proofs.threads.both.Goals as goal
 

@@ -1,5 +1,5 @@
 -- Steps that check their reads are as many, and have the same values.
-use Rattle.std.proofs.Common.{◌≡◌, ℕ, zero, suc, ◌+◌, ◌<◌, Bool, true, false, List, [], ◌∷◌, ◌++◌, length, map, take, drop, get_or, IsTrue, refl, ap, sym, ◌∙◌, arith}
+use Rattle.std.proofs.Common.{◌≡◌, ℕ, zero, suc, ◌+◌, ◌<◌, Bool, true, false, List, [], ◌∷◌, ◌++◌, length, map, take, drop, get_or, IsTrue, refl, ap, ◌∙◌, arith}
 use Rattle.std.specs.Prelude.{slice_set}
 use Rattle.std.specs.List.{list_all}
 use Rattle.std.proofs.lemmas.List.{length-map}
@@ -81,8 +81,8 @@ mapped_next f g (w ∷ was) (n ∷ now) (suc i) x y within here is so_far =
     let more = mapped_next f g was now i x y (omega (arith, within)) here is rest in
     λ k. first k ∷ more k
 
-pub mapped_more : {A B : Type 0} (f : B → B) (g : A → B) (was now : List A) (i : ℕ) (x y : A) → i < length was → get_or now i x ≡ x → g y ≡ f (g x)
+pub mapped_more : {A B : Type 0} (f : B → B) (g : A → B) (was now : List A) (i : ℕ) (x y : A) → i < length was → x ≡ get_or now i x → g y ≡ f (g x)
     → map g now ≡ map f (map g (take i was)) ++ map g (drop i was) → map g (slice_set now i y) ≡ map f (map g (take (i + 1) was)) ++ map g (drop (i + 1) was)
 mapped_more f g was now i x y within here is so_far =
     let next : suc i ≡ i + 1 = omega arith in
-    mapped_next f g was now i x y within (sym here) is so_far ∙ ap (λ n. map f (map g (take n was)) ++ map g (drop n was)) next
+    mapped_next f g was now i x y within here is so_far ∙ ap (λ n. map f (map g (take n was)) ++ map g (drop n was)) next

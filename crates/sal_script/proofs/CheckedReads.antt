@@ -63,26 +63,26 @@ limits_with checked old new made limits =
 -- ---- in place
 
 -- one element more is changed, as it is seen
-mapped_next : {A B : Type 0} (f : B → B) (g : A → B) (was now : List A) (i : ℕ) (x y : A) → i < length was → x ≡ get_or now i x → g y ≡ f (g x)
+mapped_next : {A B : Type 0} (f : B → B) (g : A → B) (was now : List A) (i : ℕ) (x y : A) → i < length was → g y ≡ f (g (get_or now i x))
     → map g now ≡ map f (map g (take i was)) ++ map g (drop i was) → map g (slice_set now i y) ≡ map f (map g (take (suc i) was)) ++ map g (drop (suc i) was)
-mapped_next f g [] now i x y within here is so_far = absurd (omega (arith, within))
-mapped_next f g (w ∷ was) [] zero x y within here is so_far = let none : [] ≡ g w ∷ map g was = so_far in absurd cc
-mapped_next f g (w ∷ was) [] (suc i) x y within here is so_far = let none : [] ≡ f (g w) ∷ (map f (map g (take i was)) ++ map g (drop i was)) = so_far in absurd cc
-mapped_next f g (w ∷ was) (n ∷ now) zero x y within here is so_far =
+mapped_next f g [] now i x y within is so_far = absurd (omega (arith, within))
+mapped_next f g (w ∷ was) [] zero x y within is so_far = let none : [] ≡ g w ∷ map g was = so_far in absurd cc
+mapped_next f g (w ∷ was) [] (suc i) x y within is so_far = let none : [] ≡ f (g w) ∷ (map f (map g (take i was)) ++ map g (drop i was)) = so_far in absurd cc
+mapped_next f g (w ∷ was) (n ∷ now) zero x y within is so_far =
     let all : g n ∷ map g now ≡ g w ∷ map g was = so_far in
     let first : g n ≡ g w = cc in
     let rest : map g now ≡ map g was = cc in
-    let changed : g y ≡ f (g w) = is ∙ ap (λ z. f (g z)) here ∙ ap f first in
+    let changed : g y ≡ f (g w) = is ∙ ap f first in
     λ k. changed k ∷ rest k
-mapped_next f g (w ∷ was) (n ∷ now) (suc i) x y within here is so_far =
+mapped_next f g (w ∷ was) (n ∷ now) (suc i) x y within is so_far =
     let all : g n ∷ map g now ≡ f (g w) ∷ (map f (map g (take i was)) ++ map g (drop i was)) = so_far in
     let first : g n ≡ f (g w) = cc in
     let rest : map g now ≡ map f (map g (take i was)) ++ map g (drop i was) = cc in
-    let more = mapped_next f g was now i x y (omega (arith, within)) here is rest in
+    let more = mapped_next f g was now i x y (omega (arith, within)) is rest in
     λ k. first k ∷ more k
 
-pub mapped_more : {A B : Type 0} (f : B → B) (g : A → B) (was now : List A) (i : ℕ) (x y : A) → i < length was → x ≡ get_or now i x → g y ≡ f (g x)
+pub mapped_more : {A B : Type 0} (f : B → B) (g : A → B) (was now : List A) (i : ℕ) (x y : A) → i < length was → g y ≡ f (g (get_or now i x))
     → map g now ≡ map f (map g (take i was)) ++ map g (drop i was) → map g (slice_set now i y) ≡ map f (map g (take (i + 1) was)) ++ map g (drop (i + 1) was)
-mapped_more f g was now i x y within here is so_far =
+mapped_more f g was now i x y within is so_far =
     let next : suc i ≡ i + 1 = omega arith in
-    mapped_next f g was now i x y within here is so_far ∙ ap (λ n. map f (map g (take n was)) ++ map g (drop n was)) next
+    mapped_next f g was now i x y within is so_far ∙ ap (λ n. map f (map g (take n was)) ++ map g (drop n was)) next

@@ -7,4 +7,4 @@ use Rattle.sal_script.proofs.checked.with_reads.Goals as goal
 pub loop-program-preserved : goal.loop-program-preserved
 loop-program-preserved c =
     let l = c.loop-program in
-    mapped_more (map checked_step) moves_of c.deref_mut-program-items.result.now l.program-items l.program-index _ c.check_program.new.program c.loop-program-test.true c.program-item.is c.check_program.ensures l.invariant
+    mapped_more (map checked_step) moves_of c.deref_mut-program-items.result.now l.program-items l.program-index _ c.check_program.new.program c.loop-program-test.true c.check_program.ensures l.invariant

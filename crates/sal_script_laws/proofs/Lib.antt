@@ -12,8 +12,6 @@ pub mod Program
 pub mod ReadNumbers
 pub mod ReadPath
 pub mod ReadValue
-pub mod Stand
 pub mod Standing
-pub mod Submitted
 pub mod Summed
 pub mod Turning

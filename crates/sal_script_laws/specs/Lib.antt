@@ -1,3 +1,2 @@
 pub mod Numbers
 pub mod Rounds
-pub mod Submitted

@@ -1,10 +1,6 @@
-//! Laws of the rounds of a load, and of checked reads. A call does nothing: its clauses are the laws.
+//! Laws of the rounds of a load. A call does nothing: its clauses are the laws.
 ghost use Rattle.sal_script_laws.specs.Numbers as numbers;
 ghost use Rattle.sal_script_laws.specs.Rounds as rounds;
-ghost use Rattle.sal_script_laws.specs.Submitted.{PlayedReadsStand, ReadsAreSubmitted};
-
-use sal_history_laws::serial;
-use sal_script::laws;
 
 /// There is no row at or below an entry that no round put, nor at the list itself.
 pub fn entries_stand_alone()
@@ -57,14 +53,4 @@ pub fn loads_come_to_one()
     rounds_have_keys();
     rounds_add_up();
     rounds_are_counted();
-}
-
-/// What a transaction with checked reads looked at is in the operations that its client submits, at its place, whatever the client and
-/// others do in between. If that submission is done, the look answered what it would answer over the trees just before the commit.
-pub fn checked_reads_stand()
-    ensures submitted { ReadsAreSubmitted }
-    ensures stand { PlayedReadsStand }
-{
-    laws::reads_are_known();
-    serial::checked_runs_are_serialisable();
 }

@@ -19,7 +19,7 @@ use Rattle.sal_script.specs.CheckedLaws.{Grows, LooksAreKnown, TransactionsGrow}
 use Rattle.sal_script.specs.Moves.{Move, Begin, ChainBegin, Submit, Cancel, OpenChain, Listen, Take, Invoke, NextCall}
 use Rattle.sal_script.specs.Play.{Client, Meeting, Open, Spot, found, keep, local, look, meet, rows_read, shared, submit, submit_in, table_for, with_ops}
 use Rattle.sal_script.specs.Tables.{Versions, table_at}
-use Rattle.sal_script_laws.specs.Submitted.{Deed, IsLook, Point, ReadsAreSubmitted, after_deed, after_deeds, deed_spares, spares, stepped, takes, waits}
+use Rattle.sal_checked_laws.specs.Submitted.{Deed, IsLook, Point, ReadsAreSubmitted, after_deed, after_deeds, deed_spares, spares, stepped, takes, waits}
 
 -- the slot has this transaction, with further operations
 abbrev Has : ℕ → Open → Client → Type 0

@@ -26,8 +26,8 @@ use Rattle.sal_script.specs.Moves.{Move, Submit}
 use Rattle.sal_script.specs.Play.{Meeting, local, meet, shared}
 use Rattle.sal_script.specs.Tables.{Versions}
 use Rattle.sal_script.proofs.Later.{began_later}
-use Rattle.sal_script_laws.specs.Submitted.{Deed, PlayedReadsStand, Point, after_deed, after_deeds, stepped, takes, waits}
-use Rattle.sal_script_laws.proofs.Submitted.{reads_are_submitted}
+use Rattle.sal_checked_laws.specs.Submitted.{Deed, PlayedReadsStand, Point, after_deed, after_deeds, stepped, takes, waits}
+use Rattle.sal_checked_laws.proofs.Submitted.{reads_are_submitted}
 
 -- ---- the log only grows
 

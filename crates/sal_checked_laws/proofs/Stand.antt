@@ -48,16 +48,16 @@ module _ (tables : List Versions) (world : List Domain) (c : ℕ) where
   deeds_longer at (deed ∷ deeds) =
       let one = deed_longer at deed in
       let all = deeds_longer (after_deed tables world c at deed) deeds in
-      (one.0 ++ all.0, all.1 ∙ ap (λ (log : List Entry). log ++ all.0) one.1 ∙ sym (append_assoc at.log one.0 all.0))
+      (one.0 ++ all.0, all.1 ∙ ap (λ (log : List Entry). log ++ all.0) one.1 ∙ append_assoc at.log one.0 all.0)
 
 -- ---- the submission
 
 -- the operations of a submit
-ops_in : Meeting → List Op
+abbrev ops_in : Meeting → List Op
 ops_in (shared (made.Submit place ops)) = ops
 ops_in m = []
 
-receipt_in : Reply → ℕ
+abbrev receipt_in : Reply → ℕ
 receipt_in (Receipt n) = n
 receipt_in r = 0
 
@@ -72,7 +72,7 @@ module _ (world : List Domain) where
   sents_longer (e ∷ rest) past =
       let now : Answered = answered_as world past e (reply_to world past e.client e.call) in
       let others = sents_longer rest (past ++ now ∷ []) in
-      (option_to_list now.sent ++ others.0, others.1 ∙ ap (λ (ss : List Sent). ss ++ others.0) (sents-push past now) ∙ sym (append_assoc (sents past) (option_to_list now.sent) others.0))
+      (option_to_list now.sent ++ others.0, others.1 ∙ ap (λ (ss : List Sent). ss ++ others.0) (sents-push past now) ∙ append_assoc (sents past) (option_to_list now.sent) others.0)
 
   -- a submit that is answered with a receipt is the submission of that number
   sent_there : (log rest : List Entry) (e : Entry) (place n : ℕ) (ops : List Op) (base : Base) → e.call ≡ made.Submit place ops → reply world log e ≡ Receipt n → began_at (history world log) place ≡ Some base
@@ -91,7 +91,7 @@ module _ (world : List Domain) where
       ap sents (fold-append (answer world) [] log (e ∷ rest))
       ∙ others.1
       ∙ ap (λ (ss : List Sent). ss ++ others.0) (sents-push past now ∙ ap (λ (o : Option Sent). sents past ++ option_to_list o) sent)
-      ∙ sym (append_assoc (sents past) (t ∷ []) others.0) in
+      ∙ append_assoc (sents past) (t ∷ []) others.0 in
       (λ i. slice_get (all i) (place_of i)) ∙ get_seam (sents past) t others.0
 
 pub played_reads_stand : LooksAreKnown → TransactionsGrow → EachReadStands → PlayedReadsStand
@@ -104,7 +104,7 @@ played_reads_stand known grow stands tables world c at slot store text path tx l
     let longer = deeds_longer tables world c at (takes look ∷ deeds) in
     let began_to : began_at (history world to.log) tx.place ≡ Some base =
     ap (λ (l : List Entry). began_at (history world l) tx.place) longer.1 ∙ began_later world at.log longer.0 tx.place before ∙ began in
-    let whole : log ≡ at.log ++ (longer.0 ++ e ∷ rest) = ap (λ (l : List Entry). l ++ e ∷ rest) longer.1 ∙ sym (append_assoc at.log longer.0 (e ∷ rest)) in
+    let whole : log ≡ at.log ++ (longer.0 ++ e ∷ rest) = ap (λ (l : List Entry). l ++ e ∷ rest) longer.1 ∙ append_assoc at.log longer.0 (e ∷ rest) in
     let began_log : began_at (history world log) tx.place ≡ Some base =
     ap (λ (l : List Entry). began_at (history world l) tx.place) whole ∙ began_later world at.log (longer.0 ++ e ∷ rest) tx.place before ∙ began in
     let t : Sent = record { base = base; ops = ops } in

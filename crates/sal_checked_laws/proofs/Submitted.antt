@@ -26,12 +26,12 @@ abbrev Has : ℕ → Open → Client → Type 0
 Has slot tx client = (new : Open) × (client.transactions slot ≡ Some new) × Grows tx new
 
 grow_on : (tx mid new : Open) → Grows tx mid → Grows mid new → Grows tx new
-grow_on tx mid new first then = record {
-  more = first.more ++ then.more;
+grow_on tx mid new first next = record {
+  more = first.more ++ next.more;
   same =
-      then.same
-      ∙ (λ i. record (first.same i) { ops = (first.same i).ops ++ then.more })
-      ∙ (λ i. record tx { ops = append_assoc tx.ops first.more then.more i });
+      next.same
+      ∙ (λ i. record (first.same i) { ops = (first.same i).ops ++ next.more })
+      ∙ (λ i. record tx { ops = append_assoc tx.ops first.more next.more i });
 }
 
 -- ---- what a shared call leaves

@@ -1,5 +1,5 @@
 //! The commits of a hub by their receipts.
-ghost use Rattle.std.specs.Prelude.{◌≡◌, ◌<◌, ◌^◌, ℕ, None, Some, IfOk, OnOk, if◌then◌else◌, length, map, nat_eq};
+ghost use Rattle.std.specs.Prelude.{◌≡◌, ◌-◌, ◌<◌, ◌^◌, ℕ, None, Some, IfOk, OnOk, if◌then◌else◌, length, map, nat_eq};
 ghost use Rattle.std.specs.Option.{option_or};
 ghost use Rattle.sal_commit.specs.Stamps.{first_receipt, receipts_of};
 ghost use Rattle.sal_draw.specs.Acts.{made_in};
@@ -72,6 +72,13 @@ fn add_domain(table: &mut Table, domain: u32, commits: &[Commit]) -> Result<(), 
     add_since(table, domain, commits, first)
 }
 
+// The receipt, counted from the first one on.
+fn since(receipt: u64, first: u64) -> u64
+    ensures { result ≡ receipt - first }
+{
+    receipt.saturating_sub(first)
+}
+
 // The commits by their receipts, counted from this one on.
 fn add_since(table: &mut Table, domain: u32, commits: &[Commit], first: u64) -> Result<(), NoMemory>
     ensures { OnOk result ((i : ℕ) → made_in table.new.items i ≡ option_or (made_in table.old.items i) (spec.made_from «domain» 0 (spec.receipts_since first commits.now) i)) }
@@ -81,7 +88,7 @@ fn add_since(table: &mut Table, domain: u32, commits: &[Commit], first: u64) -> 
             domain,
             number: number as u64,
         };
-        let receipt = commit.receipt.saturating_sub(first);
+        let receipt = since(commit.receipt, first);
         add_commit(table, receipt, made)?;
     }
     Ok(())

@@ -15,6 +15,7 @@ loop-number-preserved c = λ i.
     let n = c.loop-number.number in
     let x = c.index-commits-number.result in
     c.in_ok-add_commit.ensures i
+    ∙ ap (λ r. option_or (made_in c.loop-number.table.items i) (here c.args.domain n r i)) c.since-receipt.ensures
     ∙ ap (λ (o : Option Made). option_or o (here c.args.domain n (x.receipt - c.args.first) i)) (c.loop-number.invariant i)
     ∙ commit_more c.args.first c.args.domain c.args.commits.now n x i (made_in c.args.table.now.items i) c.loop-number-test.true c.index-commits-number.is
 

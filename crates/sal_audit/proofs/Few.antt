@@ -1,9 +1,10 @@
 -- A script that is prepared has at most 16 clients.
-use Rattle.std.proofs.Common.{◌≡◌, ℕ, suc, ◌+◌, ◌≤◌, Bool, true, false, List, [], ◌∷◌, length, Option, Some, None, option_and_then, Result, Ok, Err, nat_le, codes, refl, ap, subst, arith, if◌then◌else◌}
+use Rattle.std.proofs.Common.{◌≡◌, ℕ, suc, ◌+◌, ◌≤◌, Bool, true, false, List, [], ◌∷◌, length, Option, Some, None, option_and_then, Result, Ok, Err, nat_le, codes, refl, ap, sym, subst, arith, if◌then◌else◌}
 use Rattle.std.proofs.lemmas.Bool.{leb-true}
 use Rattle.serde_json.specs.Data.{Data, Members}
 use Rattle.sal_types.specs.Reading.{◌>>=◌}
 use Rattle.sal_script.specs.Json.{data_of}
+use Rattle.sal_script.specs.CheckedReads.{with_reads}
 use Rattle.sal_script.specs.Moves.{Move}
 use Rattle.sal_script.specs.Script.{OwnParts, Parts, at_most, client_place, clients_from, clients_member, devices_member, ending_of, list_member, members_of, names, or_bad, own_of, parts_of, parts_with, program_of, programs_from, script_of, steps_from}
 use Rattle.sal_prepare.specs.declared.status.Status.{Status}
@@ -49,13 +50,20 @@ abbrev clients_in : Result Parts (List ℕ) → List (List Move)
 clients_in (Ok parts) = parts.clients
 clients_in (Err place) = []
 
+-- checked reads change no number of clients
+as-many : (checked : Bool) (clients : List (List Move)) → length (with_reads checked clients) ≡ length clients
+as-many false clients = refl
+as-many true [] = refl
+as-many true (ms ∷ clients) = ap suc (as-many true clients)
+
 few-parts : (ms : Members) (own : OwnParts) (parts : Parts) → parts_with ms own ≡ Ok parts → length parts.clients ≤ 16
 few-parts ms own parts h =
     let devices = bind_ok (devices_member ms) _ parts h in
     let clients = bind_ok (clients_member ms) _ parts devices.2 in
     let ending = bind_ok (ending_of ms) _ parts clients.2 in
-    let same : clients.0 ≡ parts.clients = ap clients_in ending.2 in
-    subst (λ (list : List (List Move)). length list ≤ 16) same (few-clients ms clients.0 clients.1)
+    let same : with_reads ending.0.checked clients.0 ≡ parts.clients = ap clients_in ending.2 in
+    let most : length (with_reads ending.0.checked clients.0) ≤ 16 = subst (λ n. n ≤ 16) (sym (as-many ending.0.checked clients.0)) (few-clients ms clients.0 clients.1) in
+    subst (λ (list : List (List Move)). length list ≤ 16) same most
 
 few-script : (bytes : List ℕ) (parts : Parts) → script_of bytes ≡ Ok parts → length parts.clients ≤ 16
 few-script bytes parts h =

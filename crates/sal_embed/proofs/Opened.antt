@@ -26,7 +26,7 @@ use Rattle.sal_prepare.specs.declared.status.Status.{Status}
 use Rattle.sal_prepare.specs.declared.status.Status.TheVariants.{Done, BadWords, ReadFault, WriteFault, TooLong, BadScript, BadSchema, BadOpening, BadOrder, NoMemory, NoPart, BadStream, BadExport}
 use Rattle.sal_prepare.proofs.Each.{bind_fault}
 use Rattle.sal_embed.specs.Laws.{WorldsAreOfModules}
-use Rattle.sal_embed.specs.Opening.{IsBadAt, IsBegun, bare, opened, played_by, without, world_of}
+use Rattle.sal_embed.specs.Opening.{IsBadAt, IsBegun, bare, opened, played_by, reads_of, without, world_of}
 
 -- ---- members that a script may not have
 

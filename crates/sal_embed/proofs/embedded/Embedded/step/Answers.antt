@@ -1,5 +1,5 @@
 -- The step is read, the client has a place, and it makes the step.
-use Rattle.std.proofs.Common.{ℕ, List, Result, ap, ◌∙◌, subst, arith}
+use Rattle.std.proofs.Common.{ℕ, List, Result, refl, ap, ◌∙◌, subst, arith}
 use Rattle.sal_script.specs.Moves.{move_of}
 use Rattle.sal_client.proofs.Faults.{err_so}
 use Rattle.sal_embed.specs.declared.fault.StepFault.{StepFault}
@@ -15,12 +15,12 @@ pub returns-in_err-step-clause-steps : goal.returns-in_err-step-clause-steps
 returns-in_err-step-clause-steps c =
     let e = c.in_err-step.field-0.0 in
     let it = c.self.inside.clients in
-    subst (λ (old : Clients). Steps old it c.args.client c.args.step.now c.from_residual.result) c.self.view_is
+    subst (λ (old : Clients). Steps old old c.args.client c.args.step.now c.from_residual.result) c.self.view_is
     (err_so (λ (r : Result (List ℕ) StepFault). Steps it it c.args.client c.args.step.now r) _ (fault_of e) c.from_residual.ensures.1
     (bad_step it c.args.client c.args.step.now e (omega arith) c.in_err-step.ensures.reads))
 
 pub returns-in_err-step-clause-reads : goal.returns-in_err-step-clause-reads
-returns-in_err-step-clause-reads c = ap (λ (it : Clients). it.checked_reads) c.self.view_is
+returns-in_err-step-clause-reads c = refl
 
 pub returns-in_err-place-clause-steps : goal.returns-in_err-place-clause-steps
 returns-in_err-place-clause-steps c =

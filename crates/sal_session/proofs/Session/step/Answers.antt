@@ -9,11 +9,11 @@ returns-in_default c =
     steps_closed c.args.self.now.broker c.args.client c.args.step.now _ _ none (refl, none, c.nothing.ensures)
 
 pub returns-in-Ok : goal.returns-in-Ok
-returns-in-Ok c = steps_open c.args.self.now.broker c.args.client c.args.step.now _ _ c.in-Some.broker c.step.new.self (Ok c.in-Ok.text) c.in-Some.is c.in-Ok.ensures refl refl refl
+returns-in-Ok c = steps_open c.args.self.now.broker c.args.client c.args.step.now _ _ c.in-Some.broker c.step.new.self (Ok c.in-Ok.text) c.in-Some.is c.in-Ok.ensures.steps refl refl refl
 
 pub returns-in-Err : goal.returns-in-Err
 returns-in-Err c =
     let fault = c.in-Err.fault in
     let fails = c.fail.ensures in
-    steps_open c.args.self.now.broker c.args.client c.args.step.now _ _ c.in-Some.broker c.step.new.self (Err fault) c.in-Some.is c.in-Err.ensures
+    steps_open c.args.self.now.broker c.args.client c.args.step.now _ _ c.in-Some.broker c.step.new.self (Err fault) c.in-Some.is c.in-Err.ensures.steps
     (fails.broker ∙ sym (kept_by fault c.step.new.self)) fails.number (fails.reply ∙ c.nothing.ensures)

@@ -1,7 +1,7 @@
-"""What tools/embed tries of the embedded broker's library: what it should answer, and that a wrong expectation is reported.
+"""The tests of tools/embed for the embedded broker's library: the expected answers, and that a wrong expectation is reported.
 
-Each try takes the library's folder and a folder for what it makes, and returns what it found; it raises `Differs` where that is not what is wanted,
-and `Absent` where a program that it needs is not there.
+Each test takes the library's folder and a folder for its output, and returns a line with its result. It raises `Differs` if the result is not the
+expected one, and `Absent` if a program that it needs is missing.
 """
 import hashlib
 import json
@@ -26,11 +26,11 @@ OWN_REFUSALS = re.compile(r"refused (empty-slot|read-only|no-device|no-upgrade|u
 
 
 class Differs(Exception):
-    """What the library does is not what is wanted."""
+    """The library does not do what is expected."""
 
 
 class Absent(Exception):
-    """A program that the try needs is not there."""
+    """A program that the test needs is missing."""
 
 
 # ---- programs
@@ -42,7 +42,7 @@ def needed(*programs):
 
 
 def ran(words, **how):
-    """Runs a program, and returns what it printed."""
+    """Runs a program, and returns its output."""
     done = subprocess.run(words, stdout=subprocess.PIPE, stderr=subprocess.PIPE, text=True, errors="replace", **how)
     if done.returncode:
         raise Differs(f"{os.path.basename(words[0])} ended with {done.returncode}\n{done.stdout[-2000:]}{done.stderr[-4000:]}")
@@ -59,7 +59,7 @@ def compiled(source, folder, room, flags=("-O2",), compiler="gcc"):
 
 
 def sanitizing(room):
-    """Returns a compiler with sanitizers: clang, or else gcc."""
+    """Returns a compiler with sanitizers: clang if it is there, else gcc."""
     with open(f"{room}/empty.c", "w", encoding="utf-8") as file:
         file.write("int main(void) { return 0; }\n")
     for it in ("clang", "gcc"):
@@ -158,7 +158,7 @@ def written(word, parts):
 
 
 def forms():
-    """Yields each form of a step: its word, and the letters of its parts."""
+    """Yields each form of a step: its keyword, and the letters of its parts."""
     for it in FORMS.replace("\n", " ").split(";"):
         word, *letters = it.split()
         yield word, letters
@@ -173,7 +173,7 @@ def good_steps():
 
 
 def bad_steps():
-    """Yields, for each form: a part of another kind, a part too few or too many, another word, other brackets, and each text that is cut off."""
+    """Yields, for each form: a part of another kind, one part too few or too many, another keyword, other brackets, and each prefix of the text."""
     for word, letters in forms():
         base = [GOOD[it][0] for it in letters]
         text = written(word, base)
@@ -187,7 +187,7 @@ def bad_steps():
 
 
 def bad_bytes():
-    """Yields texts that are no UTF-8."""
+    """Yields texts that are not UTF-8."""
     for text in good_steps():
         text = text.encode()
         yield from (text[:at] + bytes([255]) + text[at:] for at in range(0, len(text) + 1, 7))
@@ -209,7 +209,7 @@ def every_form(folder, room, is_wrong=False):
 
 
 def refused(mdsal, broker, step, fault):
-    """Makes a step, which is refused so, or has a reply if there is no fault."""
+    """Makes a step that must be refused with this fault, or have a reply if there is none."""
     try:
         reply = broker.step(0, step)
     except mdsal.Error as it:
@@ -223,7 +223,7 @@ def refused(mdsal, broker, step, fault):
 # ---- threads
 
 def threads(folder, room):
-    """Lets eight threads share a broker, each as a client of its own, until each has counted its own mark a thousand times."""
+    """Eight threads share a broker, each as one client. Each commits a thousand values of its own leaf."""
     mdsal, wrong, count = library(folder), [], 1000
     with mdsal.Broker("{}") as broker:
         def works(client):
@@ -257,7 +257,7 @@ def broker_moved(mdsal, wrong):
             wrong.append("a broker that moved")
 
 
-# ---- want of memory
+# ---- failing allocations
 
 STEPS = """0 ["listen",0,0,"config","/plain:box"]
 0 ["begin",0,0,"rw"]
@@ -284,7 +284,7 @@ NO_BROKER = "{}"
 
 
 def wanting(folder, room, is_wrong=False):
-    """Lets each allocation fail in turn: the steps that were made are a script of their own, with the report that was told."""
+    """Each allocation fails in turn: the steps that were made are themselves a script, whose report is the one that was returned."""
     try:
         how = ((*SANITIZERS, "-Wl,--wrap=malloc,--wrap=realloc"), sanitizing(room))
     except Absent:
@@ -309,7 +309,7 @@ def wanting(folder, room, is_wrong=False):
 
 
 def remade(n, statuses, report, folder, is_wrong):
-    """Makes the steps that were made once more, with memory at hand."""
+    """Makes the steps that were made once more, with enough memory."""
     if statuses[0] != 0 or 28 in statuses:
         if statuses[-1] != 21 or report:
             raise Differs(f"with allocation {n} failing there is a report of no broker")
@@ -326,7 +326,7 @@ def remade(n, statuses, report, folder, is_wrong):
 # ---- the cases of the test corpus
 
 def parts_of(text):
-    """Yields the parts of the array or the object, each as it is written, behind its name or None."""
+    """Yields the parts of the array or the object: the name or None, and the text of the value."""
     at, name = 1, None
     while True:
         at = SPACE.match(text, at).end()
@@ -342,13 +342,13 @@ def parts_of(text):
 
 
 def programs_in(script):
-    """Returns the steps of each client, as the script has them."""
+    """Returns the texts of each client's steps in the script."""
     clients = dict(parts_of(script)).get("clients", "[]")
     return [[step for _, step in parts_of(dict(parts_of(client))["steps"])] for _, client in parts_of(clients)]
 
 
 def played(broker, programs, order):
-    """Makes the steps of the clients in this order of their shared calls, and the local steps that are left."""
+    """Makes the steps of the clients in this order of their shared calls, then the remaining local steps."""
     at = [0] * len(programs)
     for client in [*order, *range(len(programs))]:
         while at[client] < len(programs[client]):
@@ -393,7 +393,7 @@ TRANSACTION = (
 
 
 def timed(folder, room, program=None):
-    """Returns lines that say how long a step takes, from C, from Python, and under `sim` of this program, if it is given."""
+    """Returns lines with the time of a step from C, from Python, and in `sim` of this program, if one is given."""
     found, count = [], 59994
     for name, steps in (("a call that only looks", TURN), ("a transaction of 6 steps, 2 of them puts", TRANSACTION)):
         told = subprocess.run([compiled("timed", folder, room), str(count)], input="\n".join(steps) + "\n", capture_output=True, text=True, check=True).stdout.split()

@@ -1,8 +1,8 @@
-"""The crates as the kit sees them, and what this machine keeps of them: for tools/over and tools/parts.
+"""The crates as the kit sees them, and what this machine keeps of their proofs: for tools/over and tools/parts.
 
-A kit whose `rt ci` keeps what it proved has a store of its own. For the other kit, what tools/parts proved stands in STORE/NAME/SUM, by a sum of
-all that this version of the crate is made from, the libraries below it and the kit among it. So each clone of the repository finds what another
-one proved. Nothing in it is a verdict: the full check reads none of it.
+A kit whose `rt ci` keeps what it proved has its own store. For the other kit, what tools/parts proved is in STORE/NAME/SUM, where SUM is a checksum of
+all inputs of this version of the crate, also the libraries below it and the kit. So each clone of the repository finds what another clone proved.
+Nothing in the store counts as a verdict: the full check does not read it.
 """
 import functools
 import hashlib
@@ -14,7 +14,7 @@ from kit import KIT, ROOT, command
 
 STORE = os.environ.get("RATTLE_PARTS", os.path.expanduser("~/.cache/rattle-parts"))
 MOST = 3  # versions of a crate, each of 10 to 200 MB
-# What the outcome of a part depends on, beside the crate's code.
+# What the result of a part depends on, besides the crate's code.
 BESIDE = {"proof": (), "tests": (), "run": ("args", "data", "status", "stdin", "stdout"), "edits": ("must-fail",)}
 
 
@@ -33,7 +33,7 @@ def repository(tool):
 
 
 def stand(tool, crate, own):
-    """Puts each library below the crate into its place, from the kit's own store if it has one. Stops if some are not kept as they are, and names them."""
+    """Puts each library below the crate into its place, from the kit's own store if it has one. Stops if some are not kept in this version, and names them."""
     names = [it.name for it in crate.below() if not (given(it, own) if own else put(it))]
     if names:
         sys.exit(f"{tool}: not kept as they are: {' '.join(names)}. {'`rt ci`' if own else 'tools/parts --proofs'} with their names proves them")
@@ -57,7 +57,7 @@ def content(file):
 
 
 def files(folder, parts):
-    """Yields the files of these parts of the folder, which are files and folders."""
+    """Yields the files of these parts (files or folders) of the folder."""
     for part in parts:
         if os.path.isfile(f"{folder}/{part}"):
             yield f"{folder}/{part}"
@@ -67,7 +67,7 @@ def files(folder, parts):
 
 
 def summed(folder, parts, *more):
-    """Returns a sum of these parts of the folder, and of some texts."""
+    """Returns a checksum of these parts of the folder and of some texts."""
     made = hashlib.sha256(repr(more).encode())
     for file in files(folder, parts):
         made.update(repr((os.path.relpath(file, folder), content(file))).encode())
@@ -76,12 +76,12 @@ def summed(folder, parts, *more):
 
 @functools.lru_cache(None)
 def stamp(crate):
-    """Returns a sum of all that the crate is made from, once for each crate: the kit's own goes over a library once for each way that leads to it."""
+    """Returns a checksum of all inputs of the crate, computed once for each crate: the kit's own function reads a library again for each path to it."""
     return summed(crate.folder, ("src", "specs", "proofs"), content(f"{KIT}/WHAT"), crate.said, crate.has_c, [stamp(it) for it in crate.deps])
 
 
 def key(crate, what):
-    """Returns a sum of all that the outcome of the part depends on."""
+    """Returns a checksum of all that the result of the part depends on."""
     return summed(crate.folder, BESIDE[what], stamp(crate))
 
 
@@ -92,7 +92,7 @@ def place(crate):
 
 
 def noted(path):
-    """Returns what the file notes of a part: the sum of what it was made from, and its CPU seconds. Nothing if there is no such file."""
+    """Returns the record of a part: the checksum of its inputs, and its CPU seconds. Empty if there is no such file."""
     return content(path).decode().split() if os.path.isfile(path) else []
 
 
@@ -101,24 +101,24 @@ def is_kept(crate, what):
 
 
 def versions(crate):
-    """Returns the folders of the versions that are kept of the crate, oldest first."""
+    """Returns the folders of the kept versions of the crate, oldest first."""
     folder = f"{STORE}/{crate.name}"
     return sorted((it.path for it in os.scandir(folder)), key=os.path.getmtime) if os.path.isdir(folder) else []
 
 
 def seconds(crate, what):
-    """Returns the CPU seconds that the part took in the latest version of which they are noted, or None."""
+    """Returns the CPU seconds of the part in the latest version that has a record of them, or None."""
     found = [it for it in (noted(f"{at}/{what}") for at in versions(crate)) if it]
     return float(found[-1][1]) if found else None
 
 
 def made_of(crate):
-    """Returns what the crate's proof leaves in its out/."""
+    """Returns the results of the crate's proof in its out/."""
     return [crate.name, f"{crate.name}.by-rattle"] if crate.is_program else ["rlib"]
 
 
 def linked(at, to):
-    """Gives a file, or each file of a folder, a second name; over file systems, a copy. Whoever makes either anew removes it first."""
+    """Makes a hard link of a file, or of each file of a folder; a copy if the file systems differ. A program that writes one of them anew removes it first."""
     try:
         shutil.copytree(at, to, copy_function=os.link) if os.path.isdir(at) else os.link(at, to)
     except (OSError, shutil.Error):
@@ -134,7 +134,7 @@ def remove(path):
 
 
 def keep(crate, what, took):
-    """Keeps what became of the part, and its CPU seconds; and the latest versions of the crate alone."""
+    """Keeps the result of the part and its CPU seconds, and removes all but the latest versions of the crate."""
     at = place(crate)
     os.makedirs(at, exist_ok=True)
     for it in made_of(crate) if what == "proof" else []:
@@ -151,7 +151,7 @@ def keep(crate, what, took):
 
 
 def put(crate):
-    """Puts what the crate's proof made into its place, and returns whether it is kept."""
+    """Puts the results of the crate's proof into their place, and returns whether they are kept."""
     if not is_kept(crate, "proof"):
         return False
     if crate.makes_rlib() and noted(f"{crate.folder}/out/rlib/kept") == [stamp(crate)]:
@@ -167,6 +167,6 @@ def put(crate):
 
 
 def mark(crate):
-    """Notes which version of the crate stands in its place, so that nobody puts it there again while another check reads it."""
+    """Records which version of the crate is in its place, so that it is not replaced while another check reads it."""
     with open(f"{crate.folder}/out/rlib/kept", "w", encoding="utf-8") as file:
         file.write(stamp(crate))

@@ -1,7 +1,7 @@
-"""The kit that the tools find, and the crates of crates.txt.
+"""The installed kit, and the crates of crates.txt.
 
-The tools know two kits. `rt ci` of rattle-kit-13f takes names of crates and keeps what it proved; that of rattle-kit-13b does neither, and
-tools/parts proves by parts and keeps (tools/kept.py).
+The tools support two kits. `rt ci` of rattle-kit-13f takes names of crates and keeps what it proved; `rt ci` of rattle-kit-13b does neither, so
+tools/parts proves by parts and keeps them (tools/kept.py).
 """
 import importlib.machinery
 import importlib.util
@@ -12,7 +12,7 @@ import sys
 
 KIT = os.environ.get("RATTLE_KIT", "/opt/rattle")
 ROOT = os.path.dirname(os.path.dirname(os.path.abspath(__file__)))
-KNOWN = ("rattle-kit-13b", "rattle-kit-13f")  # whose words, files and insides the tools read
+KNOWN = ("rattle-kit-13b", "rattle-kit-13f")  # whose arguments, files and internals the tools use
 # Names that the tools read in `rt` of a kit that keeps, and of one that does not; and how many arguments its crates_of takes.
 KEEPING = (("Kept",), 1)
 PLAIN = (("BACKENDS", "IGNORED", "REACHES", "RENAMES", "edits_of", "in_lanes", "must_fail_all", "need", "run", "stop_on_words"), 2)
@@ -25,7 +25,7 @@ def found():
 
 
 def tell(tool):
-    """Stops if there is no kit, warns if the tools do not know it, and returns its name."""
+    """Stops if there is no kit, warns if the tools do not support it, and returns its name."""
     if not os.access(f"{KIT}/bin/rt", os.X_OK):
         sys.exit(f"{tool}: there is no Rattle kit in {KIT}: RATTLE_KIT names its folder")
     name = found()
@@ -35,7 +35,7 @@ def tell(tool):
 
 
 def command(tool):
-    """Returns the kit's own `rt` as a module, and whether its `rt ci` keeps what it proved. Stops if it lacks what the tools read in it."""
+    """Returns the kit's own `rt` as a module, and whether its `rt ci` keeps what it proved. Stops if it lacks a name that the tools use."""
     name = tell(tool)
     sys.path.insert(0, f"{KIT}/bin")
     loader = importlib.machinery.SourceFileLoader("rt", f"{KIT}/bin/rt")
@@ -50,7 +50,7 @@ def command(tool):
 
 
 def crates():
-    """Returns, for each crate of crates.txt, what it uses."""
+    """Returns, for each crate of crates.txt, the crates that it uses."""
     stands = {}
     with open(f"{ROOT}/crates.txt", encoding="utf-8") as it:
         for line in it:

@@ -1,10 +1,10 @@
 /*
-** Calls that a careless host makes. Each answers its status, and leaves the broker as it was.
+** Wrong calls of a careless host. Each returns its status, and does not change the broker.
 **
-**   hostile          tries them all, and prints `c: ok`
-**   hostile STEPS    makes so many shared calls after that, and prints how long one took; the call beyond 1,000,000 is refused
+**   hostile          makes all of them, and prints `c: ok`
+**   hostile STEPS    makes this many shared calls after that, and prints the time of one; the calls after 1,000,000 are refused
 **
-** Built with WRONG, LEAK or ROOM it does what it should not, for tools/embed to see that it is reported.
+** Built with WRONG, LEAK or ROOM it makes a mistake on purpose: tools/embed checks that it is reported.
 */
 #include "mdsal.h"
 
@@ -50,7 +50,7 @@ static void closed(mdsal *broker) {
     mdsal_close(broker);
 }
 
-/* A refused script leaves no broker, and the line of its status. */
+/* After a refused script no broker is open, and the text is the line of the status. */
 static void bad_scripts(void) {
     static const struct {
         const char *script;
@@ -79,7 +79,7 @@ static void bad_scripts(void) {
     }
 }
 
-/* What is no step is refused, whoever makes it. */
+/* Bytes that are not a step are refused, for any client. */
 static void bad_steps(mdsal *broker) {
     static const char *const steps[] = {
         "", " ", "{", "{}", "null", "7", "\"pump\"", "[", "[]", "[7]", "[null]", "[[]]", "[\"pump\"", "[\"pump\"],", "[\"pump\"] x", "[\"pump\"]]}],\"order\":[0",
@@ -99,7 +99,7 @@ static void bad_steps(mdsal *broker) {
     CHECK(stepped(broker, UINT32_MAX, "[\"pump\"]") == MDSAL_BAD_CLIENT && said(""));
 }
 
-/* The text is copied as far as there is room, and no byte behind it is written. */
+/* The text is copied up to the room, and no byte after it is written. */
 static void rooms(mdsal *broker) {
     uint8_t out[64];
     CHECK(stepped(broker, 0, "[\"mark\",7]") == MDSAL_OK && said("ok"));
@@ -115,7 +115,7 @@ static void rooms(mdsal *broker) {
     }
 }
 
-/* The report is copied whole into a block of its own length, and in part into each smaller one. */
+/* The report is copied completely into a block of its length, and in part into each smaller one. */
 static void report_rooms(mdsal *broker) {
     CHECK(mdsal_report(broker) == MDSAL_OK);
     size_t length = mdsal_reply(broker, text, sizeof text);
@@ -135,7 +135,7 @@ static void report_rooms(mdsal *broker) {
     }
 }
 
-/* A handle may be moved, and opened again once it is closed. */
+/* A handle may be moved, and opened again after it is closed. */
 static void moved(void) {
     mdsal first = {0}, second;
     for (int i = 0; i < 3; i++) {
@@ -150,7 +150,7 @@ static void moved(void) {
     }
 }
 
-/* Two handles have nothing to do with each other; an open one is not opened again; the last client's number is a client's. */
+/* Two handles are independent; an open one is not opened again; the greatest client number is accepted. */
 static void others(mdsal *broker) {
     mdsal other = {0};
     CHECK(opened(&other, "{}") == MDSAL_OK);
@@ -165,7 +165,7 @@ static void others(mdsal *broker) {
     closed(&other);
 }
 
-/* Makes shared calls until the log is full, or so many. */
+/* Makes shared calls until there are `steps`, also after the log is full. */
 static void many(mdsal *broker, unsigned long steps) {
     clock_t start = clock();
     for (unsigned long i = 3; i < steps; i++) {

@@ -1,9 +1,9 @@
 /*
-** Makes steps over and over, and prints how long that took.
+** Makes steps repeatedly, and prints their time.
 **
-**   timed COUNT    standard input has the steps of client 0, one on each line; they are made in turn until COUNT are made
+**   timed COUNT    standard input has the steps of client 0, one on each line; they are repeated in order until COUNT are made
 **
-** It prints the processor's microseconds for each step, with the copy of its reply, and then for the report.
+** It prints the processor time in microseconds of each step with the copy of its reply, and then of the report.
 */
 #include "mdsal.h"
 

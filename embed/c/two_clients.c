@@ -1,4 +1,4 @@
-/* Two clients sell from one stock. The second meets a conflict and tries again; the first listens to what is sold. */
+/* Two clients sell from one stock. The second has a conflict and tries again; the first listens to the sales. */
 #include "mdsal.h"
 
 #include <stdarg.h>
@@ -15,7 +15,7 @@ static void fail(const char *what, uint32_t status) {
     exit(1);
 }
 
-/* Takes the text of the last call. */
+/* Copies the text of the last call. */
 static const char *reply(mdsal *broker) {
     size_t length = mdsal_reply(broker, (uint8_t *)text, sizeof text - 1);
     if (length >= sizeof text) {
@@ -25,7 +25,7 @@ static const char *reply(mdsal *broker) {
     return text;
 }
 
-/* Makes a step, which is written as for printf, and returns its reply. */
+/* Makes a step, whose text is a format as for printf, and returns its reply. */
 static const char *step(mdsal *broker, uint32_t client, const char *format, ...) {
     char bytes[256];
     va_list parts;
@@ -43,7 +43,7 @@ static const char *step(mdsal *broker, uint32_t client, const char *format, ...)
     return text;
 }
 
-/* Takes one from the stock in the transaction of slot 0, and returns the outcome. */
+/* Removes one piece from the stock in the transaction of slot 0, and returns the outcome. */
 static const char *sell(mdsal *broker, uint32_t client, unsigned long stock) {
     step(broker, client, "[\"put\",0," STOCK ",%lu]", stock - 1);
     step(broker, client, "[\"submit\",0]");

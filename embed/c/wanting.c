@@ -3,8 +3,8 @@
 **
 **   wanting SCRIPT N    each line of standard input is a client's number, a space and a step; the Nth allocation fails
 **
-** It prints the status of the opening and of each step; at the end that of the report, which is asked for with memory at hand, and the report. It is
-** linked by --wrap=malloc --wrap=realloc. The status is 3 if there were fewer than N allocations.
+** It prints the status of the opening and of each step, then that of the report, which is made with enough memory, and the report. It is
+** linked with --wrap=malloc --wrap=realloc. The exit status is 3 if there were fewer than N allocations.
 */
 #include "mdsal.h"
 

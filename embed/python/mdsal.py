@@ -1,4 +1,4 @@
-"""The data broker in a Python program, over libmdsal.so.
+"""The data broker as a Python module, over libmdsal.so.
 
     import mdsal
 
@@ -7,11 +7,11 @@
         broker.step(0, ["put", 0, "config", "/plain:box/a", "x"])
         print(broker.report())
 
-A script is a text, bytes, or an object that `json.dumps` writes; so is a step. A step that the broker refuses has a reply, which begins with
-`refused`. What has none raises: `BadScript`, `BadSchema`, `BadOpening`, `BadStep`, `BadClient`, `Full`, `Lost`, `Untold`, `Broken`, `Closed` are all
-`Error`; want of memory is `MemoryError`. `embed/mdsal.h` says what each means.
+A script is a text, bytes, or an object for `json.dumps`; so is a step. A step that the broker refuses has a reply, which starts with `refused`. A
+call without a reply raises an exception: `MemoryError` if memory ran out, else a subclass of `Error`: `BadScript`, `BadSchema`, `BadOpening`,
+`BadStep`, `BadClient`, `Full`, `Lost`, `Untold`, `Broken` or `Closed`. `embed/mdsal.h` explains them.
 
-Threads may share a broker: each call holds its lock, so a step has its own reply.
+Threads may share a broker: each call holds its lock until the reply is copied.
 """
 import ctypes
 import json
@@ -22,23 +22,23 @@ __all__ = ["Broker", "Error", "BadScript", "BadSchema", "BadOpening", "BadStep",
 
 
 class Error(Exception):
-    """What the broker refused; the text is its own."""
+    """A call without a reply. The text is the broker's line if it has one, else it names the call."""
 
 
 class BadScript(Error):
-    """The bytes are no script, or it has clients or an order."""
+    """The bytes are not a script, or it has clients or an order."""
 
 
 class BadSchema(Error):
-    """The modules build no schema."""
+    """The modules do not give a schema."""
 
 
 class BadOpening(Error):
-    """An opening tree is no data of the schema, or breaks a rule of it."""
+    """An opening tree is not data of the schema, or breaks a rule of it."""
 
 
 class BadStep(Error):
-    """The bytes are no step. Nothing was changed."""
+    """The bytes are not a step. Nothing was changed."""
 
 
 class BadClient(Error):
@@ -50,15 +50,15 @@ class Full(Error):
 
 
 class Lost(Error):
-    """An earlier step of this client found no memory. Nothing was changed."""
+    """Memory ran out in an earlier step of this client. Nothing was changed."""
 
 
 class Untold(Error):
-    """The step was made; the report has its reply."""
+    """The step was made, but memory ran out for its reply; the report has it."""
 
 
 class Broken(Error):
-    """Memory ran out behind a call that is in the log. The broker is closed."""
+    """Memory ran out after a call was added to the log. The broker is closed."""
 
 
 class Closed(Error):
@@ -95,8 +95,8 @@ def _bytes(what):
 
 
 class Broker:
-    """A broker over the opening trees of a script without clients and order. `library` is the path of libmdsal.so; without it that is the
-    value of MDSAL_LIBRARY, or else libmdsal.so beside this file."""
+    """A broker over the opening trees of a script without clients and order. `library` is the path of libmdsal.so; the default is the value
+    of MDSAL_LIBRARY, or else libmdsal.so in the folder of this file."""
 
     def __init__(self, script, library=None):
         self._handle, self._lock = _Handle(), threading.Lock()
@@ -128,7 +128,7 @@ class Broker:
         raise self._fault(status, "report")
 
     def close(self):
-        """Lets go of the broker. It may be called again."""
+        """Frees the broker. It may be called again."""
         with self._lock:
             self._library.mdsal_close(self._handle)
 
@@ -139,7 +139,7 @@ class Broker:
         self.close()
 
     def __del__(self):
-        # (also where __init__ failed early; no call is under way, since nobody has the broker)
+        # (also if __init__ failed early; no call runs, since there is no reference to the broker)
         if getattr(self, "_library", None):
             self._library.mdsal_close(self._handle)
 

@@ -1,4 +1,4 @@
-"""Two clients sell from one stock. The second meets a conflict and tries again; the first listens to what is sold."""
+"""Two clients sell from one stock. The second has a conflict and tries again; the first listens to the sales."""
 import sys
 
 import mdsal

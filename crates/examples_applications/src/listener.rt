@@ -8,7 +8,7 @@ use sal::{ListenerId, Mirror, Path, Rows, Sal, Seat, Store};
 use std::alloc::Global;
 use std::sync::Wait;
 
-/// A listener to the whole configuration, and the copy that it keeps.
+/// A listener to the whole configuration, and its mirror.
 #[derive(Drop)]
 pub(crate) struct Listener {
     pub(crate) id: ListenerId,
@@ -33,7 +33,7 @@ impl Listener {
         Ok(Listener { id, mirror })
     }
 
-    /// Takes what was committed since into the mirror, and returns how many commits changed something.
+    /// Takes the commits since the last time into the mirror, and returns how many commits changed something.
     pub(crate) fn take<R: Wait>(
         &mut self,
         rt: &R,

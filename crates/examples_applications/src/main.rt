@@ -1,16 +1,16 @@
-//! Two applications of a controller share a data broker, each on a thread of its own.
+//! Two applications of a controller share a data broker, each on a separate thread.
 //!
 //! Both give numbers to tunnels, from one leaf of the configuration with the last number given. An application begins a
-//! transaction, reads the leaf, puts the next number, and submits. If the other one was faster, the broker answers a conflict, and
+//! transaction, reads the leaf, puts the next number, and submits. If the other one was faster, the outcome is a conflict, and
 //! the application begins again. Before they start, the program itself listens to the whole configuration; when both are done, it
-//! takes what every commit changed into its mirror. What it prints is the same however the two threads were scheduled.
+//! takes the changes of every commit into its mirror. Its output is the same for any schedule of the two threads.
 //!
 //! The domain and its counter are those of `examples_counter`.
 //!
-//! | file | what it shows |
+//! | file | content |
 //! |---|---|
 //! | `application` | begin, read, put, submit, settle, and again after a conflict |
-//! | `listener` | a listener, and a mirror of what was committed |
+//! | `listener` | a listener, and a mirror of the committed tree |
 //! | `threads` | a seat for each application; close |
 #![tactic(auto)]
 

@@ -11,7 +11,7 @@ use std::alloc::Global;
 use std::sync::{Arc, Wait};
 use std::thread::{Threads, join};
 
-/// What was left when both applications were done.
+/// The result when both applications are done.
 #[derive(Drop)]
 pub(crate) struct End {
     /// The number in the counter.
@@ -24,7 +24,7 @@ pub(crate) struct End {
     pub(crate) is_mirrored: bool,
 }
 
-/// Opens a broker for the applications, lets them take their numbers, and returns what was left.
+/// Opens a broker for the applications, lets them take their numbers, and returns the result.
 pub(crate) fn share<R: Threads + Wait + Sync>(rt: &R, alloc: Global) -> anyhow::Result<End> {
     let schema = Arc::new(alloc, schema(alloc)?)?;
     let counter = Counter::at(alloc, &schema, LAST_NUMBER)?;
@@ -55,7 +55,7 @@ fn run<R: Threads + Wait + Sync>(
     end_of(alloc, &hub, counter, &listener, told)
 }
 
-// Each application with its seat on a thread of its own, until both are done.
+// Each application with its seat on a separate thread, until both are done.
 fn both<R: Threads + Wait + Sync>(
     rt: &R,
     alloc: Global,

@@ -1,4 +1,4 @@
-//! A leaf that counts.
+//! A counter leaf.
 ghost use Rattle.std.specs.Prelude.{◌≡◌};
 
 use anyhow::bail;
@@ -27,7 +27,7 @@ impl Counter {
         &self.path
     }
 
-    /// Puts the number after the last one given, as the transaction sees it.
+    /// Puts the number after the last one, as the transaction sees it.
     pub fn count_up(&self, alloc: Global, tx: &mut WriteTx) -> anyhow::Result<()>
         ensures begun { tx.new.begun ≡ tx.old.begun }
         ensures mode { tx.new.mode ≡ tx.old.mode }
@@ -53,26 +53,26 @@ impl Counter {
         ensures mode { tx.new.mode ≡ tx.old.mode }
         ensures base { tx.new.base ≡ tx.old.base }
     {
-        let rows = self.rows(alloc, number)?;
+        let rows = leaf_with(alloc, &self.path, number)?;
         if !is_for(tx.schema(), Store::Config, &self.path, &rows) {
             bail!("{number} is no number of the counter");
         }
         let path = self.path.copy()?;
         Ok(tx.put(alloc, Store::Config, path, rows)?)
     }
+}
 
-    // The leaf with this number.
-    fn rows(&self, alloc: Global, number: u64) -> Result<Rows, NoMemory> {
-        let value = Value {
-            member: 0,
-            atom: Atom::Unsigned(number),
-        };
-        let row = Row {
-            path: self.path.copy()?,
-            cell: Cell::Leaf(value),
-        };
-        Rows::of_one(alloc, row)
-    }
+/// The leaf at the path with this number, and no other row.
+pub fn leaf_with(alloc: Global, path: &Path, number: u64) -> Result<Rows, NoMemory> {
+    let value = Value {
+        member: 0,
+        atom: Atom::Unsigned(number),
+    };
+    let row = Row {
+        path: path.copy()?,
+        cell: Cell::Leaf(value),
+    };
+    Rows::of_one(alloc, row)
 }
 
 /// The number in the rows of the leaf.

@@ -10,7 +10,7 @@ use std::alloc::Global;
 // The client's number.
 const CLIENT: u32 = 0;
 
-/// Counts up so many times, in a transaction each time.
+/// Counts up `times` times, in one transaction each.
 pub fn count(alloc: Global, hub: &mut Hub, counter: &Counter, times: u64) -> anyhow::Result<()> {
     for _ in 0..times {
         count_up(alloc, hub, counter)?;

@@ -1,10 +1,11 @@
-//! What three examples share: a domain with one number, and a client that counts in it.
+//! The common part of several examples: a domain with one number, and a client that counts in it.
 //!
 //! | item | what it is |
 //! |---|---|
 //! | `schema`, `device` | from YANG text to a domain without data |
-//! | `Counter`, `number_in` | a leaf that a transaction reads and puts; the number in its rows |
-//! | `count` | begin, read, put, submit and settle, so many times, over a `Hub` of one thread |
+//! | `Counter` | a leaf that a transaction reads and puts |
+//! | `leaf_with`, `number_in` | a number as the rows of one leaf, and back |
+//! | `count` | begin, read, put, submit and settle, `times` times, over a `Hub` of one thread |
 //!
 //! ```
 //! let schema = Arc::new(alloc, schema(alloc)?)?;
@@ -19,6 +20,6 @@ mod counter;
 mod counting;
 mod domain;
 
-pub use counter::{Counter, number_in};
+pub use counter::{Counter, leaf_with, number_in};
 pub use counting::count;
 pub use domain::{LAST_NUMBER, device, schema};

@@ -1,4 +1,4 @@
-//! The controller: it counts, sends what it committed, and goes on with the next hub.
+//! The controller: it counts, sends its commits, and continues with the next hub.
 ghost use Rattle.std.specs.Prelude.{◌≡◌, ◌≤◌, true, length};
 
 use anyhow::bail;
@@ -11,26 +11,26 @@ use sal_resume::frames_on;
 use std::alloc::Global;
 use std::sync::{Arc, Wait};
 
-/// How many epochs there are.
+/// The number of epochs.
 pub(crate) const EPOCHS: u64 = 3;
 
 // How often frames are sent in an epoch.
 const SENDINGS: u64 = 4;
 
-// How many commits there are between two sendings.
+// The number of commits between two sendings.
 const COMMITS: u64 = 250;
 
 /// Some bytes of frames.
 pub(crate) type Piece = Vec<u8>;
 
-/// Where the frames go, and the one that comes next.
+/// The channel for the frames, and the next frame.
 #[derive(Drop)]
 struct Stream {
     to: Sender<Piece, Global>,
     next: NextFrame,
 }
 
-/// Counts through all epochs, and answers the last number.
+/// Counts through all epochs, and returns the last number.
 pub(crate) fn lead<R: Wait>(
     rt: &R,
     alloc: Global,
@@ -92,7 +92,7 @@ fn has_few_domains(hub: &Hub) -> bool
     hub.domains().len() <= 64
 }
 
-// Counts, and sends the frames of what was committed since the last sending.
+// Counts, and sends the frames of the commits since the last sending.
 fn epoch<R: Wait>(
     rt: &R,
     alloc: Global,

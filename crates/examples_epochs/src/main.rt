@@ -1,12 +1,12 @@
-//! A controller that runs for three epochs, and a stand-by that follows it over them.
+//! A controller that runs for three epochs, and a stand-by that follows it through them.
 //!
-//! The log of a hub ends at 1,000,000 entries. Before it does, the controller lets the hub go and goes on with the next one, which begins with the
-//! newest trees. It counts in a leaf of its configuration, and sends the frames of its commits as bytes through a channel. The stand-by, on a thread of
-//! its own, feeds them to a follower. The frames of the next hub are numbered on, so the stand-by does not notice that an epoch ends.
+//! The log of a hub ends at 1,000,000 entries. Before that, the controller replaces the hub by the next one, which begins with the
+//! newest trees. It counts in a leaf of its configuration, and sends the frames of its commits as bytes through a channel. The stand-by, on a
+//! separate thread, feeds them to a follower. The frames of the next hub have the next numbers, so the stand-by does not notice the end of an epoch.
 //!
 //! The domain and the client that counts in it are those of `examples_counter`.
 //!
-//! | file | what it shows |
+//! | file | content |
 //! |---|---|
 //! | `controller` | epochs: a hub, the frames of its commits, and the next hub |
 //! | `standby` | one follower over all epochs |

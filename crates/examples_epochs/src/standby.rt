@@ -1,6 +1,6 @@
-//! The stand-by: one follower over all epochs.
+//! The stand-by: one follower through all epochs.
 ghost use Rattle.std.specs.Prelude.{◌≡◌, ◌+◌, ◌<◌, ◌^◌, IfOk, length};
-ghost use Rattle.examples_epochs.specs.Fed.{IsFedBy};
+ghost use Rattle.sal_follow.specs.Fed.{IsFedBy};
 
 use crate::controller::Piece;
 use anyhow::bail;
@@ -11,7 +11,7 @@ use sal_follow::{FollowFault, Follower, laws};
 use std::alloc::Global;
 use std::sync::{Arc, Wait};
 
-/// What the stand-by saw.
+/// The state of the stand-by.
 #[derive(Drop)]
 pub(crate) struct Seen {
     /// The number of the last frame.
@@ -20,14 +20,14 @@ pub(crate) struct Seen {
     pub(crate) number: u64,
 }
 
-// A follower, with the number of bytes that it has had at most.
+// A follower, with the largest number of bytes that it may have received.
 #[derive(Drop)]
 struct Standing {
     follower: Follower,
     fed: u64,
 }
 
-/// Takes all that comes, to the end.
+/// Takes all pieces, to the end.
 pub(crate) fn follow<R: Wait>(
     rt: &R,
     alloc: Global,
@@ -66,7 +66,7 @@ fn feed(standing: &mut Standing, piece: &[u8]) -> Result<(), FollowFault>
     fed
 }
 
-// Feeds a piece to a follower that has had so many bytes.
+// Feeds a piece to a follower that has received at most `before` bytes.
 fn feed_behind(follower: &mut Follower, before: u64, piece: &[u8]) -> Result<(), FollowFault>
     requires fed { IsFedBy before follower.old }
     requires few { before + length piece.now < 2 ^ 64 }
@@ -79,7 +79,7 @@ fn feed_behind(follower: &mut Follower, before: u64, piece: &[u8]) -> Result<(),
     }
 }
 
-// What a follower saw.
+// The state of a follower.
 fn seen_by(standing: &Standing) -> anyhow::Result<Seen> {
     let Some(frame) = standing.follower.version() else {
         bail!("no frame came");

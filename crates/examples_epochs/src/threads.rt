@@ -6,25 +6,25 @@ use std::alloc::Global;
 use std::sync::Wait;
 use std::thread::{Threads, join};
 
-// So many pieces wait at most.
+// The largest number of waiting pieces.
 const WAITING: usize = 4;
 
-/// What was left when both were done.
+/// The result when both are done.
 #[derive(Drop)]
 pub(crate) struct End {
     /// The last number that the controller counted.
     pub(crate) last: u64,
-    /// What the stand-by saw.
+    /// The state of the stand-by.
     pub(crate) seen: Seen,
 }
 
-/// Lets the controller count through its epochs, beside the stand-by.
+/// Lets the controller count through its epochs, at the same time as the stand-by.
 pub(crate) fn run<R: Threads + Wait + Sync>(rt: &R, alloc: Global) -> anyhow::Result<End> {
     let (to, from) = bounded(alloc, WAITING)?;
     both(rt, alloc, to, from)
 }
 
-// Both at the same time, until the controller is done and all that it sent was taken.
+// Both at the same time, until the controller is done and all its pieces were taken.
 fn both<R: Threads + Wait + Sync>(
     rt: &R,
     alloc: Global,

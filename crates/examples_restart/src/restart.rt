@@ -10,7 +10,7 @@ use std::sync::Arc;
 // How far each controller counts.
 const HALF: u64 = 3;
 
-/// What was left when both controllers were done.
+/// The result when both controllers are done.
 #[derive(Drop)]
 pub(crate) struct End {
     /// How many bytes the frames of the first one have.
@@ -23,7 +23,7 @@ pub(crate) struct End {
     pub(crate) last: u64,
 }
 
-/// Counts with one controller, and on with the next one.
+/// Counts with one controller, then on with the next one.
 pub(crate) fn run(alloc: Global) -> anyhow::Result<End> {
     let schema = Arc::new(alloc, schema(alloc)?)?;
     let counter = Counter::at(alloc, &schema, LAST_NUMBER)?;
@@ -32,7 +32,7 @@ pub(crate) fn run(alloc: Global) -> anyhow::Result<End> {
     second_half(alloc, stream.items().len(), follower, &counter)
 }
 
-// The frames that the first controller leaves.
+// The frames of the first controller.
 fn first_half(alloc: Global, schema: &Arc<Schema>, counter: &Counter) -> anyhow::Result<Bytes> {
     let mut hub = open(alloc, schema)?;
     count(alloc, &mut hub, counter, HALF)?;

@@ -1,6 +1,7 @@
 //! An RPC of the schema, and its data.
 use anyhow::bail;
-use sal::{Atom, Cell, Duplicate, NoMemory, Path, Row, Rows, Schema, Step, Value, schema_of};
+use examples_counter::leaf_with;
+use sal::{NoMemory, Path, Rows, Schema, Step, schema_of};
 use std::alloc::Global;
 
 const NUMBERS: &str = "module numbers {
@@ -65,36 +66,5 @@ fn child_at(schema: &Schema, node: u32, index: usize) -> anyhow::Result<u32> {
     match schema.children(Some(node)).get(index) {
         Some(child) => Ok(*child),
         None => bail!("node {node} has no child {index}"),
-    }
-}
-
-// The leaf at the path with this number, and no other row.
-fn leaf_with(alloc: Global, path: &Path, number: u64) -> Result<Rows, NoMemory> {
-    let value = Value {
-        member: 0,
-        atom: Atom::Unsigned(number),
-    };
-    let row = Row {
-        path: path.copy()?,
-        cell: Cell::Leaf(value),
-    };
-    Rows::of_one(alloc, row)
-}
-
-/// The number in the rows of one leaf.
-pub(crate) fn number_in(rows: &Rows) -> u64 {
-    match rows.items() {
-        [row, ..] => match &row.cell {
-            Cell::Leaf(value) => number_of(value),
-            Cell::Mark => 0,
-        },
-        [] => 0,
-    }
-}
-
-fn number_of(value: &Value) -> u64 {
-    match &value.atom {
-        Atom::Unsigned(number) => *number,
-        _ => 0,
     }
 }

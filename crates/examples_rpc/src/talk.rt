@@ -2,8 +2,9 @@
 ghost use Rattle.std.specs.Prelude.{◌≡◌};
 ghost use Rattle.sal.specs.Turns.{Keeps};
 
-use crate::service::{Service, number_in, schema};
+use crate::service::{Service, schema};
 use anyhow::bail;
+use examples_counter::number_in;
 use sal::{Rules, Sal, Seat, empty_device};
 use std::alloc::Global;
 use std::sync::{Arc, Wait};

@@ -134,7 +134,7 @@ texts = object (member (codes "inv:box") (object (member (codes "first") (words 
 abbrev pub holds : ℕ → Atom → TreeRow
 holds n atom = row (Node 0 ∷ Node n ∷ []) (Leaf (value 0 atom))
 
--- what is at a step below this node of the box
+-- the row at a step below this node of the box
 abbrev pub below : ℕ → Step → Cell → TreeRow
 below n step cell = row (Node 0 ∷ Node n ∷ step ∷ []) cell
 

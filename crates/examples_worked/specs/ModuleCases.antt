@@ -1,4 +1,4 @@
--- Modules, and what is looked up in them.
+-- Modules, and look-ups in them.
 use Rattle.std.specs.Prelude.{ℕ, zero, suc, ◌+◌, List, [], ◌∷◌, ◌++◌, Option, Some, None}
 use Prim.Native.String.{String}
 use Rattle.sal_stmt.specs.declared.stmt.Stmt.{Stmt}
@@ -24,22 +24,22 @@ container = plain "container" 34 "c" (leaf ∷ [])
 abbrev pub written : Stmt
 written = plain "module" 0 "m" (namespace ∷ prefix ∷ container ∷ [])
 
--- its statements the other way round
+-- its statements in reverse order
 abbrev pub turned : Stmt
 turned = plain "module" 0 "m" (container ∷ prefix ∷ namespace ∷ [])
 
--- ---- places
+-- ---- offsets
 
 abbrev pub at_place : ℕ → Option Stmt → List (ℕ × Stmt)
 at_place at None = []
 at_place at (Some stmt) = (at, stmt) ∷ []
 
--- what a look-up finds at so many places from one on
+-- the results of a look-up at n offsets from one on
 abbrev pub places : (ℕ → Option Stmt) → ℕ → ℕ → List (ℕ × Stmt)
 places find at zero = []
 places find at (suc n) = at_place at (find at) ++ places find (at + 1) n
 
--- the module and the statements in it, with their places
+-- the module and the statements in it, with their offsets
 abbrev pub standing : Stmt → List (ℕ × Stmt)
 standing whole = (0, whole) ∷ (11, namespace) ∷ (24, prefix) ∷ (34, container) ∷ (48, leaf) ∷ (57, type) ∷ []
 

@@ -1,10 +1,10 @@
--- Texts that are no statement, and the first fault of each, with its byte.
+-- Texts that are no statement, and the first fault of each, with its offset.
 use Rattle.std.specs.Prelude.{List, [], ◌∷◌, codes}
 use Rattle.sal_stmt.specs.declared.fault.StmtFault.{StmtFault}
 use Rattle.sal_stmt.specs.declared.fault.StmtFault.TheVariants.{BadToken, BadEscape, Unclosed, TextAfter}
 use Rattle.sal_stmt.specs.Words.{Text}
 
--- a token that does not belong there, or a character that no text has
+-- a token that is not allowed there, or a character that no text has
 abbrev pub bad_tokens : List (Text × StmtFault)
 bad_tokens =
     (codes "", BadToken 0)
@@ -82,7 +82,7 @@ texts_after =
     ∷ (codes "a;/b", TextAfter 2)
     ∷ []
 
--- each proper prefix of `module m { prefix p; }` is unclosed, where its innermost open part begins
+-- each proper prefix of `module m { prefix p; }` is unclosed, with the offset of its innermost open part
 abbrev pub prefixes : List (Text × StmtFault)
 prefixes =
     (codes "m", Unclosed 0)

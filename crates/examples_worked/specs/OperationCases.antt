@@ -1,4 +1,4 @@
--- A delete, the merge of a mark, and a put of nothing; and rows at a path.
+-- A delete, the merge of a mark, and a put without rows; and rows at a path.
 use Rattle.std.specs.Prelude.{ℕ, List, [], ◌∷◌, codes}
 use Prim.Native.String.{String}
 use Rattle.sal_types.specs.declared.value.Atom.TheVariants.{Text}

@@ -14,7 +14,7 @@ part low high = record { low = low; high = high }
 abbrev pub within : List Part
 within = part (minus 1000) (pos 1000) ∷ part (pos 2000) (pos 3000) ∷ []
 
--- what a text gives, of numbers with so many digits after the point
+-- the range of a text, of numbers with this many digits after the point
 abbrev pub given : ℕ → String → Result (List Part) RangeFault
 given digits text = read_ranges (codes text) within digits
 
@@ -40,7 +40,7 @@ whole =
     ∷ ("1|2 |3", part (pos 1) (pos 1) ∷ part (pos 2) (pos 2) ∷ part (pos 3) (pos 3) ∷ [])
     ∷ []
 
--- numbers that lie outside, or in the gap
+-- numbers outside, or in the gap
 abbrev pub wider : List String
 wider =
     "min..-1 | 1..max"

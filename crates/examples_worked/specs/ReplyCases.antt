@@ -1,5 +1,5 @@
--- Replies that no script brings about: the greatest number, a conflict at the root, nodes that the schema does not have, a domain that is not
--- there, and faults that no script has.
+-- Replies that no script has: the greatest number, a conflict at the root, nodes that the schema does not have, a domain that does not
+-- exist, and faults that no script has.
 use Rattle.std.specs.Prelude.{List, [], ◌∷◌}
 use Rattle.sal_types.specs.declared.value.Store.TheVariants.{Config, Oper}
 use Rattle.sal_rows.specs.declared.outcome.CallFault.TheVariants as call_fault

@@ -107,7 +107,7 @@ abbrev pub wrong_leafs : Row SchemaTable
 wrong_leafs =
     -- a leaf without a type
     of_nodes (info None Leaf "n" (Some true) None [] [] ∷ [])
-    -- a list without a key, with a key that is named twice, and with one beside it
+    -- a list without a key, with a repeated key, and with a key that is no child of it
     ∷ of_nodes (entries None "host" [] [] ∷ [])
     ∷ of_nodes (entries None "host" (1 ∷ 1 ∷ []) [] ∷ leaf (Some 0) "n" ∷ [])
     ∷ of_nodes (entries None "host" (1 ∷ []) [] ∷ leaf None "n" ∷ [])

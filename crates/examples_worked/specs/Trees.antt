@@ -26,7 +26,7 @@ forms =
     ∷ (codes "p:a { q:b \"c\" { d; } }", word "p:a" 0 (plain "q:b" 6 "c" (word "d" 16 [] ∷ []) ∷ []))
     ∷ []
 
--- blanks and comments between the parts
+-- white space and comments between the parts
 abbrev pub separators : List (Text × Stmt)
 separators =
     (codes "a; // b", word "a" 0 [])
@@ -38,7 +38,7 @@ separators =
     ∷ (codes "a b/*c*/;", plain "a" 0 "b" [])
     ∷ []
 
--- words without quotes
+-- unquoted strings
 abbrev pub unquoted : List (Text × Stmt)
 unquoted =
     (codes "a b/c*d;", plain "a" 0 "b/c*d" [])
@@ -60,7 +60,7 @@ strings =
     ∷ (codes "x \"\u{7f}{;}'//\";", plain "x" 0 "\u{7f}{;}'//" [])
     ∷ []
 
--- the lines of a string in double quotes: blanks after them are cut, and before them up to the quote's column
+-- the lines of a string in double quotes: white space after them is cut, and before them up to the quote's column
 abbrev pub lines : List (Text × Stmt)
 lines =
     (codes "  x \"a  \n     b\";", plain "x" 2 "a\nb" [])

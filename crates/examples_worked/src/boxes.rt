@@ -1,5 +1,5 @@
-//! A whole box, with a leaf of each type and nodes of each kind. Each function does nothing: its contract is computed from the definitions that
-//! `is_table`, `read_data` and `read_script` keep to.
+//! A whole box, with a leaf of each type and nodes of each kind. Each function does nothing: its contract is computed from the definitions of
+//! `is_table`, `read_data` and `read_script`.
 ghost use Rattle.std.specs.Prelude.{◌≡◌, ◌++◌, ◌∷◌, [], Ok, Some, true, codes};
 ghost use Rattle.sal_schema_of_table.specs.Whole.{is_table};
 ghost use Rattle.sal_data.specs.Read.{read_data};

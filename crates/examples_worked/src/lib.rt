@@ -1,19 +1,19 @@
 //! Worked examples of definitions in lower crates, each proved by computation.
 //!
-//! | item | what it has |
+//! | item | content |
 //! |---|---|
 //! | `statements` | texts of YANG and their statements, or their first fault |
 //! | `ranges` | texts of ranges |
-//! | `modules` | what is looked up in modules |
+//! | `modules` | look-ups in modules |
 //! | `tables` | tables of a schema, and others |
 //! | `paths`, `nodes`, `operations` | paths, nodes, rows and operations |
 //! | `values` | values as they are kept, and entries that lack a row |
 //! | `boxes` | a box with a leaf of each type |
 //! | `scripts` | bytes that are no script |
-//! | `replies` | replies that no script brings about, in words |
+//! | `replies` | replies that no script has, as text |
 //!
 //! A function does nothing: its contract is the examples. By the contracts of the calls (`read_module`, `read_ranges`, `Modules::stmt`,
-//! `is_table`, `Path::cmp`, `Node::with_child`, `Mod::covered`, `read_data`, `read_script`, `report`) these answer what the definitions give.
+//! `is_table`, `Path::cmp`, `Node::with_child`, `Mod::covered`, `read_data`, `read_script`, `report`) these return what the definitions give.
 //!
 //! ```
 //! statements::texts_have_faults();

@@ -1,11 +1,11 @@
-//! What is looked up in modules: statements by their places, and modules by the prefixes that name them. Each function does nothing: its
-//! contract is computed from the definitions that `Modules` keeps to.
+//! Look-ups in modules: statements by offset, and modules by prefix. Each function does nothing: its
+//! contract is computed from the definitions of `Modules`.
 ghost use Rattle.std.specs.Prelude.{◌≡◌, ◌∷◌, [], codes, Ok, Some, None};
 ghost use Rattle.sal_stmt.specs.Text.{read};
 ghost use Rattle.sal_module.specs.Modules.{imported, stmt_at};
 ghost use Rattle.examples_worked.specs.ModuleCases as case;
 
-/// Of the first 100 places those of the statements have them, in whatever order the statements are; there is no second module.
+/// Of the first 100 offsets exactly those of the statements have one, in any order of the statements; there is no second module.
 pub fn statements_by_place()
     ensures text { read (codes "module m { namespace u; prefix p; container c { leaf a { type string; } } }") ≡ Ok case.written }
     ensures written { case.places (stmt_at (case.written ∷ []) 0) 0 100 ≡ case.standing case.written }

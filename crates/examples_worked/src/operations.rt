@@ -1,4 +1,4 @@
-//! Operations and rows. Each function does nothing: its contract is computed from the definitions that `Mod`, `Rows` and `apply` keep to.
+//! Operations and rows. Each function does nothing: its contract is computed from the definitions of `Mod`, `Rows` and `apply`.
 ghost use Rattle.std.specs.Prelude.{◌≡◌, ◌∷◌, [], Some, None, true, false};
 ghost use Rattle.sal_types.specs.declared.value.Cell.TheVariants.{Mark};
 ghost use Rattle.sal_types.specs.declared.value.Store.TheVariants.{Config, Oper};
@@ -8,7 +8,7 @@ ghost use Rattle.sal_rows.specs.Edits.{IsFirstOutOfOrder};
 ghost use Rattle.sal_mod.specs.Covers.{is_covered};
 ghost use Rattle.examples_worked.specs.OperationCases.{at, operations, put, text};
 
-/// An operation before a place covers a path where it puts or deletes the path or what is above it, in the same store.
+/// An operation before an index covers a path if it puts or deletes the path or a prefix of it, in the same store.
 pub fn operations_cover()
     ensures below_the_delete { is_covered Config operations (at 1 7) 1 ≡ true }
     ensures at_the_merge { is_covered Config operations (at 2 5) 3 ≡ false }
@@ -18,7 +18,7 @@ pub fn operations_cover()
     ensures elsewhere { is_covered Config operations (at 3 5) 3 ≡ false }
 {}
 
-/// What all of them set at a path last: a cell, its absence, or nothing.
+/// The last setting of a path by all of them: a cell, its absence, or none.
 pub fn the_last_setting_counts()
     ensures below_the_delete { last_setting Config operations (at 1 7) ≡ Some None }
     ensures at_the_merge { last_setting Config operations (at 2 5) ≡ Some (Some Mark) }
@@ -27,7 +27,7 @@ pub fn the_last_setting_counts()
     ensures elsewhere { last_setting Config operations (at 3 5) ≡ None }
 {}
 
-/// Rows are in order where each path is after the one before it; two puts of a leaf leave one row, in their store.
+/// Rows are in order if each path is after the one before it; two puts of a leaf leave one row, in their store.
 pub fn rows_are_in_order_put_and_parted()
     ensures twice { IsFirstOutOfOrder (text (at 0 1) "x" ∷ text (at 0 1) "y" ∷ []) 1 }
     ensures in_order { IsAscending (text (at 0 1) "x" ∷ text (at 0 2) "y" ∷ []) }

@@ -1,11 +1,11 @@
-//! Paths in their order. A function that does nothing: its contract is computed from the definitions that `Path` keeps to.
+//! Paths in their order. A function that does nothing: its contract is computed from the definitions of `Path`.
 ghost use Rattle.std.specs.Prelude.{◌≡◌, true, false};
 ghost use Rattle.std.specs.declared.cmp.Ordering.TheVariants.{Less};
 ghost use Rattle.sal_types.specs.Order.{path_cmp};
 ghost use Rattle.sal_types.specs.Prefix.{is_prefix};
 ghost use Rattle.examples_worked.specs.PathCases as path;
 
-/// Step by step; nodes by number, entries by their keys; a path ahead of those that it is a prefix of.
+/// Step by step; nodes by number, entries by their keys; a path before those that it is a prefix of.
 pub fn paths_go_step_by_step()
     ensures behind_its_list { path_cmp path.list path.entry ≡ Less }
     ensures below { is_prefix path.list path.entry ≡ true }

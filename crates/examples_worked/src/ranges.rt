@@ -1,5 +1,5 @@
-//! Texts of ranges, and what they give within a range. Each function does nothing: its contract is computed from the definitions that
-//! `read_ranges` keeps to.
+//! Texts of ranges, and their ranges within another one. Each function does nothing: its contract is computed from the definitions of
+//! `read_ranges`.
 ghost use Rattle.std.specs.Prelude.{◌≡◌, ◌∷◌, [], pos, true, false};
 ghost use Rattle.sal_restrict.specs.declared.fault.RangeFault.TheVariants.{BadText, Wider};
 ghost use Rattle.sal_restrict.specs.Ranges.{holds};

@@ -1,5 +1,5 @@
-//! Replies that no script has, in words. Each function does nothing: its contract is computed from the definitions that `report` of
-//! `sal_report` keeps to.
+//! Replies that no script has, as text. Each function does nothing: its contract is computed from the definitions of `report` of
+//! `sal_report`.
 ghost use Rattle.std.specs.Prelude.{◌≡◌, ◌∷◌, [], codes};
 ghost use Rattle.sal_types.specs.declared.value.Step.TheVariants.{Node};
 ghost use Rattle.sal_rules.specs.declared.fault.TxFault.TheVariants.{KeyLeaf};
@@ -17,7 +17,7 @@ pub fn replies_in_words()
     ensures notes { report_of (rack.table ∷ []) [] (case.notes ∷ []) [] ≡ codes "order\n0 0 notes [[\":\",{}]]\n" }
 {}
 
-/// Faults of paths and of writes in words.
+/// Faults of paths and of writes as text.
 pub fn faults_in_words()
     ensures path { path_fault_text (UnknownNode 2) ≡ codes "unknown-node 2" }
     ensures write { tx_fault_text rack.table (KeyLeaf (Node 0 ∷ [])) ≡ codes "key-leaf \"/inv:rack\"" }

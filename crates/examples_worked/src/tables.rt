@@ -1,5 +1,5 @@
 //! Tables that are the table of a schema, and tables that are not. Each function does nothing: its contract is computed from the test
-//! that `is_table` of `sal_schema_of_table` makes.
+//! of `is_table` of `sal_schema_of_table`.
 #![tactic(auto, unfolding(sal_schema::specs::Table::closest))]
 
 ghost use Rattle.std.specs.Prelude.{◌≡◌, ◌∷◌, [], map, true, false};
@@ -11,14 +11,14 @@ pub fn tables_of_schemas()
     ensures { map is_table case.tables ≡ true ∷ true ∷ true ∷ true ∷ [] }
 {}
 
-/// What is asked of parents, leafs, keys and names.
+/// Faults of parents, leafs, keys and names.
 pub fn tables_with_wrong_nodes()
     ensures parents { map is_table case.wrong_parents ≡ false ∷ false ∷ false ∷ false ∷ [] }
     ensures leafs { map is_table case.wrong_leafs ≡ false ∷ false ∷ false ∷ false ∷ false ∷ [] }
     ensures names { map is_table case.wrong_names ≡ false ∷ false ∷ [] }
 {}
 
-/// What is asked of types and identities.
+/// Faults of types and identities.
 pub fn tables_with_wrong_types()
     ensures types { map is_table case.wrong_types ≡ false ∷ false ∷ [] }
     ensures identities { map is_table case.wrong_identities ≡ false ∷ false ∷ [] }

@@ -1,5 +1,5 @@
-//! Values as they are kept, and entries that lack a row. Each function does nothing: its contract is computed from the definitions that
-//! `read_data`, `write_data` and `fits_rows` keep to.
+//! Values in the code's form, and entries that lack a row. Each function does nothing: its contract is computed from the definitions of
+//! `read_data`, `write_data` and `fits_rows`.
 ghost use Rattle.std.specs.Prelude.{◌≡◌, ◌∷◌, [], pos, negsuc, true, false, Ok, codes};
 ghost use Rattle.serde_json.specs.Data.{array, boolean, item, negative, no_items, null, number, string, unsigned};
 ghost use Rattle.sal_types.specs.declared.value.Atom.TheVariants.{Bin, Bits, Bool, Dec, Empty, Enum, Ident, Signed, Text, Unsigned};
@@ -8,7 +8,7 @@ ghost use Rattle.sal_json.specs.Examples as json;
 ghost use Rattle.sal_data.specs.Examples as rack;
 ghost use Rattle.examples_worked.specs.ValueCases as case;
 
-/// Values of each type as they are kept.
+/// Values of each type in the code's form.
 pub fn values_are_kept()
     ensures int8 { json.reads case.int8 (number (negative (negsuc 127))) ≡ json.gives (Signed (negsuc 127)) }
     ensures int16 { json.reads case.int16 (number (negative (negsuc 32767))) ≡ json.gives (Signed (negsuc 32767)) }
@@ -28,7 +28,7 @@ pub fn values_are_kept()
     ensures none { json.reads json.empty (array (item null no_items)) ≡ json.gives Empty }
 {}
 
-/// A number and a text in both unions of a number and a text: the member is kept beside the value.
+/// A number and a text in both unions of a number and a text: the member is part of the value.
 pub fn members_are_kept()
     ensures number_first { json.reads (json.union json.uint8 case.short) (number (unsigned 7)) ≡ json.gives (Unsigned 7) }
     ensures number_second { json.reads (json.union case.short json.uint8) (number (unsigned 7)) ≡ Ok (json.value 1 (Unsigned 7)) }
@@ -36,7 +36,7 @@ pub fn members_are_kept()
     ensures text_first { json.reads_text (json.union case.short json.uint8) "7" ≡ json.gives (Text (codes "7")) }
 {}
 
-/// An entry needs its own row and its keys, and nothing else: the rows of a rack without one of them; of an entry that is not there nothing is
+/// An entry requires only its own row and its keys: the rows of a rack without one of them; an absent entry is not
 /// written.
 pub fn entries_are_whole()
     ensures entry { fits rack.table [] (case.without 0 rack.tree_rows) ≡ false }

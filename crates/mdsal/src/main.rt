@@ -1,10 +1,10 @@
-//! The data broker's command: `mdsal run` runs a script's clients on threads over one broker and writes what each saw and
-//! what was committed; `mdsal sim` plays them in the script's order; `mdsal load` runs four clients of its own; `mdsal schema`
-//! judges a script's modules; `mdsal owner` plays steps of clients that agree on owners of entities; `mdsal export` writes commits as frames,
-//! `mdsal follow` rebuilds trees from them, and `mdsal feed` hands notifications from thread to thread.
+//! The data broker's command: `mdsal run` runs a script's clients on threads over one broker and writes the replies of each and
+//! the committed trees; `mdsal sim` plays them in the script's order; `mdsal load` runs four clients of its own; `mdsal schema`
+//! checks a script's modules; `mdsal owner` plays steps of clients that agree on owners of entities; `mdsal export` writes commits as frames,
+//! `mdsal follow` rebuilds trees from them, and `mdsal feed` passes notifications from thread to thread.
 //!
-//! It gives the words of its command line, standard input and standard output to the top call of `sal_command`, and ends
-//! with the status that this answers.
+//! It passes the words of its command line, standard input and standard output to the top call of `sal_command`, and ends
+//! with the returned status.
 #![tactic(auto)]
 
 use sal_command::top::mdsal;
@@ -34,7 +34,7 @@ fn words_of(rt: &HostRuntime) -> Result<Vec<Str>, NoMemory> {
     Ok(words)
 }
 
-// What the top call answers. The runtime is handed down twice: for the streams, and for the threads of a run or a load.
+// The status of the top call. The runtime is passed twice: for the streams, and for the threads of a run or a load.
 fn answer<R: Threads + Wait + Sync>(rt: &HostRuntime, threads: &R) -> Status {
     match words_of(rt) {
         Ok(words) => {

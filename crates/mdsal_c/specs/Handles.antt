@@ -1,4 +1,4 @@
--- What the calls of C do to a handle, which holds a session or nothing.
+-- The effect of C's calls on a handle, which has a session or none.
 use Rattle.std.specs.Prelude.{◌≡◌, ℕ, Bool, false, true, List, []}
 use Rattle.std.specs.Option.{is_some}
 use Rattle.std.specs.declared.option.Option.{Option}
@@ -6,7 +6,7 @@ use Rattle.std.specs.declared.option.Option.TheVariants.{None, Some}
 use Rattle.sal_session.specs.declared.Session.{Session}
 use Rattle.sal_session.specs.Sessions as session
 
--- the handle holds an open broker
+-- the handle has an open broker
 abbrev pub is_open : Option Session → Bool
 is_open None = false
 is_open (Some it) = is_some it.broker
@@ -16,7 +16,7 @@ abbrev pub reply_of : Option Session → List ℕ
 reply_of None = []
 reply_of (Some it) = it.reply
 
--- a broker is opened where none is; after want of memory the handle may hold nothing
+-- a broker is opened if none is; if memory runs out the handle may have none
 abbrev pub Opens : List ℕ → Option Session → ℕ → Type 0
 Opens bytes (Some it) n = session.Opens bytes it.broker it.reply n
 Opens bytes None n = n ≡ 10
@@ -29,7 +29,7 @@ OpensBy false bytes old new n = Opens bytes new n
 abbrev pub OpensIf : List ℕ → Option Session → Option Session → ℕ → Type 0
 OpensIf bytes old new n = OpensBy (is_open old) bytes old new n
 
--- a step, where the handle holds a session
+-- a step, if the handle has a session
 abbrev pub StepsIf : Option Session → ℕ → List ℕ → Option Session → ℕ → Type 0
 StepsIf None c bytes new n = (n ≡ 21) × (new ≡ None)
 StepsIf (Some old) c bytes None n = ⊥

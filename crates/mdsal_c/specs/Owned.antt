@@ -1,4 +1,4 @@
--- What C holds of a session in addition to its pointer: the box, if there is a session. Assumes nothing: this is a definition.
+-- What C owns of a session in addition to its pointer: the box, if there is a session. Assumes nothing: this is a definition.
 use mir.Syntax.{Ty}
 use base.Fml.{Fml, ftrue}
 use denote.RattleType.{RattleType}

@@ -1,4 +1,4 @@
-//! What C holds: whether there is a session, and where. Zeros are none.
+//! A handle of C: whether there is a session, and where. Zeros mean none.
 ghost use Rattle.std.specs.Prelude.{◌≡◌, false, option_map};
 ghost use Rattle.std.specs.Option.{is_some};
 ghost use Rattle.std.specs.declared.option.Option.TheVariants.{None, Some};
@@ -32,7 +32,7 @@ impl Mdsal {
         None
     }
 
-    // Puts a session where none is.
+    // Sets a session if there is none.
     pub(crate) fn put(&mut self, session: Loose<Session, Global>)
         requires { self.old.held.value ≡ None }
         ensures { self.new.held.value ≡ Some session.value }
@@ -57,7 +57,7 @@ impl Mdsal {
         }
     }
 
-    // Lets go of the session.
+    // Drops the session.
     pub(crate) fn close(&mut self, alloc: Global)
         ensures { self.new.held.value ≡ None }
     {
@@ -68,7 +68,7 @@ impl Mdsal {
         }
     }
 
-    // Puts a new session where none is.
+    // Sets a new session if there is none.
     pub(crate) fn fill(&mut self, alloc: Global, script: &[u8]) -> u32
         requires { self.old.held.value ≡ None }
         ensures { Opens script.now self.new.held.value result }
@@ -83,7 +83,7 @@ impl Mdsal {
     }
 }
 
-// What C holds may go to another thread.
+// A handle of C may go to another thread.
 pub(crate) fn handles_may_move() {
     may_move::<Mdsal>();
 }

@@ -1,4 +1,4 @@
-//! A session on the heap, by a pointer that C holds, or nothing.
+//! A session on the heap, by a pointer that C keeps, or none.
 ghost use Rattle.std.specs.Prelude.{◌≡◌, true};
 ghost use Rattle.std.specs.Coded.{coded_option};
 ghost use Rattle.std.specs.Option.{is_some};
@@ -15,7 +15,7 @@ use std::alloc::Global;
 use std::marker::Model;
 use std::ptr::null_mut;
 
-// Dropping it frees nothing: only one that holds no session is dropped.
+// Dropping it frees nothing: only one without a session is dropped.
 #[repr(C)]
 #[derive(Drop)]
 pub struct Held {

@@ -1,4 +1,4 @@
-//! The embedded broker for C: five functions over a handle that C holds. `embed/mdsal.h` says what each owes and answers.
+//! The embedded broker for C: five functions over a handle that C keeps. `embed/mdsal.h` documents each.
 #![tactic(auto)]
 
 ghost use Rattle.std.specs.Prelude.{◌≡◌, ◌++◌, drop, length, min, take};
@@ -12,7 +12,7 @@ use crate::handle::Mdsal;
 use sal_session::{IS_OPEN, NOT_OPEN, loose};
 use std::alloc::Global;
 
-/// Opens the broker of a script. Where the script is refused, the handle has the text of why and no broker.
+/// Opens the broker of a script. If the script is refused, the handle has the text of why and no broker.
 #[unsafe(no_mangle)]
 pub extern "C" fn mdsal_open(alloc: Global, handle: &mut Mdsal, script: &[u8]) -> u32
     ensures { OpensIf script.now handle.old.held.value handle.new.held.value result }
@@ -40,7 +40,7 @@ pub extern "C" fn mdsal_step(alloc: Global, handle: &mut Mdsal, client: u32, ste
     }
 }
 
-/// Copies as much as fits of the text of the last call, and returns how long that is.
+/// Copies as much of the last call's text as fits, and returns its length.
 #[unsafe(no_mangle)]
 pub extern "C" fn mdsal_reply(alloc: Global, handle: &mut Mdsal, out: &mut [u8]) -> usize
     ensures same { handle.new.held.value ≡ handle.old.held.value }
@@ -74,7 +74,7 @@ pub extern "C" fn mdsal_report(alloc: Global, handle: &mut Mdsal) -> u32
     }
 }
 
-/// Lets go of the broker and of the text. The handle is zeros again.
+/// Drops the broker and the text. The handle is zeros again.
 #[unsafe(no_mangle)]
 pub extern "C" fn mdsal_close(alloc: Global, handle: &mut Mdsal)
     ensures { handle.new.held.value ≡ None }

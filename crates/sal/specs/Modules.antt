@@ -15,7 +15,7 @@ use Rattle.sal.specs.declared.modules.SchemaFault.TheVariants as fault
 abbrev pub texts_in : List (Bor Text) → List Text
 texts_in texts = map (λ text. text.now) texts
 
--- each text is read as the statement of its place
+-- each text is read as the statement at its index
 abbrev pub AreRead : List Text → List Stmt → Type 0
 AreRead texts stmts = map read texts ≡ map Ok stmts
 
@@ -37,7 +37,7 @@ IsUnread number text (fault.Modules found) = ⊥
 IsUnread number text fault.TooLong = ⊥
 IsUnread number text fault.NoMemory = Unit {0}
 
--- the fault of the first of the texts that is no statement, unless memory ran out
+-- the fault of the first of the texts that is not a statement, unless memory ran out
 abbrev pub IsUnreadAmong : List Text → SchemaFault → Type 0
 IsUnreadAmong texts (fault.Text place unread) = IsFirstUnread texts place unread
 IsUnreadAmong texts (fault.Modules found) = ⊥
@@ -48,8 +48,8 @@ IsUnreadAmong texts fault.NoMemory = Unit {0}
 abbrev pub AreShort : List Text → Type 0
 AreShort texts = sum_by length texts < 2 ^ 32
 
--- Why the texts have no schema, unless memory ran out: they are too long; else the first of them that is no statement has this fault; else all are
--- read, and this is the first fault of the modules.
+-- Why the texts have no schema, unless memory ran out: they are too long; else the first of them that is not a statement has this fault; else all
+-- are read, and this is the first fault of the modules.
 abbrev pub IsFaultOf : List Text → SchemaFault → Type 0
 IsFaultOf texts fault.TooLong = 2 ^ 32 ≤ sum_by length texts
 IsFaultOf texts (fault.Text place unread) = AreShort texts × IsFirstUnread texts place unread

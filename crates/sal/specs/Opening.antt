@@ -1,4 +1,4 @@
--- A seat that no other was split off yet.
+-- A seat from which no other was split yet.
 use Rattle.std.specs.Prelude.{◌≡◌, true, [], ◌∷◌}
 use Rattle.sal_broker.specs.Seats.{SeatView}
 

@@ -1,4 +1,4 @@
-//! All that an application of the broker names, in one crate: it depends on `sal` and on no other crate of this repository.
+//! All names that an application of the broker needs, in one crate: it depends on `sal` and on no other crate of this repository.
 //!
 //! | item | what it is |
 //! |---|---|
@@ -6,26 +6,26 @@
 //! | `Held` | a turn at the broker that the caller keeps |
 //! | `Device`, `Opening`, `OpenFault` | a domain before the first commit, its opening trees, why they are refused |
 //! | `Rules` | the version rules, 1 or 2 |
-//! | `Hub` | what a closed broker leaves: its log and its trees |
+//! | `Hub` | the result of closing a broker: its log and its trees |
 //! | `Mode`, `Tx`, `ReadTx`, `WriteTx`, `TxFault` | transactions, and why a write or a read is refused |
 //! | `Receipt`, `Outcome`, `ClashKind`, `Rule` | a submission, and its outcome |
 //! | `Chain`, `ListenerId`, `CallId` | the tokens of a chain, of a listener, of a request |
-//! | `Opened`, `Batch`, `Part`, `Change`, `CandidateKind`, `Mirror`, `MirrorFault` | what a listener gets, and a copy that follows it |
-//! | `Request`, `Note`, `NoteList` | what a provider takes, and what a subscriber takes |
-//! | `Seen`, `CallFault` | what a look for a mark finds; why a call is refused |
+//! | `Opened`, `Batch`, `Part`, `Change`, `CandidateKind`, `Mirror`, `MirrorFault` | a listener's snapshot and batches, and a copy that they update |
+//! | `Request`, `Note`, `NoteList` | a provider's request, and a subscriber's notifications |
+//! | `Seen`, `CallFault` | the result of a look for a mark; why a call is refused |
 //! | `Path`, `Step`, `Keys`, `Store`, `Rows`, `Row`, `Cell`, `Value`, `Atom`, `Op`, `Act` | places in a tree, and data |
-//! | `Str`, `Bytes`, `Seq`, `Duplicate`, `NoMemory` | texts, bytes and lists; copies, and want of memory |
+//! | `Str`, `Bytes`, `Seq`, `Duplicate`, `NoMemory` | texts, bytes and lists; copies, and the error for memory that ran out |
 //! | `schema_of`, `SchemaFault`, `Schema` | from YANG texts to a schema, or to the first fault |
 //! | `read_module`, `build`, `Stmt`, `StmtFault`, `BuildFault` | the two parts of `schema_of` |
 //! | `build_first`, `build_on`, `SchemaVersion` | the first version of a schema, and the next one of more modules, for `Device` and `Sal::upgrade` |
 //! | `Patterns`, `read_path`, `write_path`, `read_data`, `write_data`, `fits_rows` | paths as texts, and data as JSON |
 //! | `empty_device` | a device without data |
 //! | `is_for`, `is_place` | whether a transaction may put or merge these rows there, and whether it may delete there |
-//! | `draw_log` | what the clients of a hub did to each other, as a picture |
-//! | `what_is_read_is_readable` | does nothing: the law that shows what `build` requires |
+//! | `draw_log` | how the clients of a hub affect each other, as a picture |
+//! | `what_is_read_is_readable` | does nothing: the law for the `requires` of `build` |
 //!
 //! `specs/` has the definitions that the contracts of these calls cite: a clause of an application names
-//! `Rattle.sal.specs.Turns.{Keeps}`. `proofs/` has what each application has to show: which types may go to another thread
+//! `Rattle.sal.specs.Turns.{Keeps}`. `proofs/` has the lemmas that each application needs: which types may be sent to another thread
 //! (`Sendable`), that joined seats answer for all numbers given (`AllJoined`), and that one device without upgrades is what
 //! `Sal::open` requires of versions (`OneVersion`).
 //!
@@ -47,7 +47,7 @@
 //! | `is_place` | a walk along the path |
 //! | `draw_log` | that of `sal_draw_log` |
 //!
-//! The heads of the crates that have the other calls say what these cost.
+//! The heads of the crates with the other calls state their costs.
 #![tactic(auto)]
 
 mod devices;

@@ -11,13 +11,13 @@ use sal_types::NoMemory;
 use std::alloc::{AllocError, AllocFailed, Global};
 use thiserror::Error;
 
-/// Texts have fewer bytes than 2^32 together: this many at most.
+/// The largest number of bytes of all texts together: below 2^32.
 const MAX_BYTES: usize = 4294967295;
 
-/// Why texts make no schema.
+/// Why texts give no schema.
 #[derive(Debug, Drop, Error)]
 pub enum SchemaFault {
-    /// The text with this number, from 0, is no statement.
+    /// The text with this index is not a statement.
     #[error("module {module}: {fault}")]
     Text { module: usize, fault: StmtFault },
     /// The first fault of the modules.
@@ -52,7 +52,7 @@ impl<T: Drop> From<AllocFailed<T>> for SchemaFault {
 }
 
 /// The schema of the modules with these texts, or their first fault: that they are too long, else that of the first text that is
-/// no statement, else that of all modules.
+/// not a statement, else that of all modules.
 pub fn schema_of(alloc: Global, texts: &[&str]) -> Result<Schema, SchemaFault>
     ensures schema { IfOk result (IsSchemaOf (texts_in texts.now)) }
     ensures fault { IfErr result (IsFaultOf (texts_in texts.now)) }

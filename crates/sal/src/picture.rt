@@ -6,12 +6,12 @@ use sal_hub::Hub;
 use sal_types::{Bytes, NoMemory};
 use std::alloc::Global;
 
-/// No picture has more domains.
+/// The largest number of domains of a picture.
 const MAX_DOMAINS: usize = 4294967295;
 
-/// What the clients of a hub did to each other, as Scalable Vector Graphics: a lane for each seat, and a row for each entry of the log.
+/// How the clients of a hub affect each other, as Scalable Vector Graphics: a lane for each seat, and a row for each entry of the log.
 ///
-/// `specs/Pictures` says what is drawn. It fails only if memory runs out.
+/// `specs/Pictures` defines the picture. It fails only if memory runs out.
 pub fn draw_log(alloc: Global, hub: &Hub) -> Result<Bytes, NoMemory>
     ensures { IfOk result (λ text. text ≡ log_text hub.now.world hub.now.log) }
 {

@@ -12,7 +12,7 @@ use Rattle.sal_verdict.specs.Verdicts.{line_of, verdict}
 abbrev pub audited : List ℕ → Prepared → List ℕ
 audited text script = line_of (verdict script.world script.parts.clients text)
 
--- What is wrong with the script, but for its order, counts first.
+-- A fault of the script, except for its order, is returned first.
 abbrev pub audit_parts : Parted → Result (List ℕ) Status
 audit_parts both = prepared both.first >>= (λ script. Ok (audited both.second script))
 

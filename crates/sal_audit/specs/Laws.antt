@@ -1,4 +1,4 @@
--- What an audit says of what `run` wrote.
+-- The audit of reports of `run`.
 use Rattle.std.specs.Prelude.{◌≡◌, ℕ, List, Some, Ok, codes}
 use Rattle.sal_script.specs.SomeOrder.{IsReportInSomeOrder}
 use Rattle.sal_prepare.specs.Parted.{Parted, parted}

@@ -1,4 +1,4 @@
-//! The words `audit`: from a script and a report to the line of the verdict.
+//! `audit`: from a script and a report to the line of the verdict.
 ghost use Rattle.std.specs.Prelude.{◌≡◌, ◌≤◌, [], IfOk, length};
 ghost use Rattle.sal_script.specs.Moves.{clients_of};
 ghost use Rattle.sal_script.specs.Tables.{tables_of, versions_of};
@@ -17,7 +17,7 @@ use sal_verdict::line_of;
 use std::alloc::Global;
 
 /// The line of the verdict on a report: `yes`, or `no` with a number. The input is a script, a zero byte, and the report; the first zero byte divides
-/// them. Or the status of the first that is wrong: that there is no zero byte, and then what is wrong with the script, but for its order.
+/// them. Or the status of the first fault: that there is no zero byte, then that of the script, except for its order.
 pub fn audit_text(alloc: Global, bytes: &[u8]) -> Result<Str, Status>
     ensures { IsTextOr (spec.audit_text bytes.now) result }
 {
@@ -27,7 +27,7 @@ pub fn audit_text(alloc: Global, bytes: &[u8]) -> Result<Str, Status>
     }
 }
 
-// The same of the two parts.
+// The same from the two parts.
 fn audit_parts(alloc: Global, input: TwoParts<'_>) -> Result<Str, Status>
     ensures { IsTextOr (spec.audit_parts (record { first = input.entry.first.now; second = input.entry.second.now })) result }
 {

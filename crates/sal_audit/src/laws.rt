@@ -3,7 +3,7 @@ ghost use Rattle.sal_audit.specs.Laws.{InputsOfReportsAreYes};
 
 use sal_verdict::laws;
 
-/// An input of a script that `run` takes and of what `run` wrote for it, or `sim` in any order, gets `yes`.
+/// An input of a script that `run` accepts and of the output of `run`, or of `sim` in any order, gets `yes`.
 pub fn own_inputs_are_said_yes_to()
     ensures { InputsOfReportsAreYes }
 {

@@ -2,12 +2,12 @@
 //!
 //! | item | what it is |
 //! |---|---|
-//! | `audit_text` | from a script, a zero byte and a report to the line `yes` or `no LINE`, or the status of the first that is wrong |
+//! | `audit_text` | from a script, a zero byte and a report to the line `yes` or `no LINE`, or the status of the first fault |
 //! | `audit` | the verdict on a report of a script that is prepared |
-//! | `laws` | what `run` wrote is said yes to |
+//! | `laws` | reports of `run` get yes |
 //!
-//! The script is played in the order on the report's first line, by the player that `sim` uses, and the report of that is written and compared. So a
-//! yes says that the text is what the definitions of `sal_script` give for that order, and nothing of the program that wrote it. `sal_verdict` has
+//! The script is played in the order on the report's first line, by the player of `sim`, and the report of that is written and compared. So a
+//! yes says that the text is what the definitions of `sal_script` give for that order, and nothing about the program that wrote it. `sal_verdict` has
 //! the definition of the verdict, and its laws.
 //!
 //! ```
@@ -15,8 +15,8 @@
 //! // no 8
 //! ```
 //!
-//! Cost: what `sim` takes for the script and its report, and one look at each byte of the text. What was played is not freed, since the process ends
-//! then: a caller that runs further keeps that memory taken.
+//! Cost: that of `sim` for the script and its report, and one look at each byte of the text. The play is not freed, since the process ends
+//! then: in a caller that continues, that memory stays allocated.
 #![tactic(auto)]
 
 mod audited;

@@ -21,8 +21,8 @@ use std::alloc::Global;
 use std::mem;
 use std::sync::Arc;
 
-/// The verdict on a text that is said to be the report of a script, by the hub without calls that the script is played over. The script's own order is
-/// not used. It fails only where memory runs out.
+/// The verdict on a text that may be the report of a script, by the hub without calls over the script's world. The script's own order is
+/// not used. It fails only if memory runs out.
 pub fn audit(
     alloc: Global,
     mut read: ReadScript,
@@ -71,7 +71,7 @@ fn replay(alloc: Global, read: ReadScript, hub: Hub, text: &[u8]) -> Result<Verd
     }
 }
 
-// The verdict by what was played. That is not let go: the process ends next, and gives back all at once.
+// The verdict by a play. The play is not dropped: the process ends next, and frees all at once.
 fn compared(
     alloc: Global,
     schemas: &[Arc<Schema>],

@@ -1,3 +1,4 @@
 pub mod Lateness
 pub mod Leaving
 pub mod Tokens
+pub mod Sendable

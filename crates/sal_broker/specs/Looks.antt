@@ -11,7 +11,7 @@ abbrev pub IsLate : ℕ → SeatView → SeatView → ℕ → Seen → Type 0
 IsLate most v w long Found = Unit {0}
 IsLate most v w long (Late looks front) = (looks ≡ most) × (w.turns ≡ v.turns + most) × (front ≡ long)
 
--- what a last look answers: `Late` only if the log has no such mark
+-- the result of the last look: `Late` only if the log has no such mark
 abbrev pub IsMissed : ℕ → List Entry → ℕ → Seen → Type 0
 IsMissed most log mark Found = Unit {0}
 IsMissed most log mark (Late looks front) = (looks ≡ most) × (front ≡ length log) × (has_mark log mark ≡ false)

@@ -1,4 +1,4 @@
--- What a contract sees of a seat, and of a turn that it has.
+-- How a contract sees a seat and its turn.
 use Rattle.std.specs.Prelude.{ℕ, List, [], Option, Some, None, unwrap_or}
 use Rattle.sal_history.specs.World.{Domain}
 use Rattle.sal_history.specs.declared.call.Entry.{Entry}
@@ -10,7 +10,7 @@ use Rattle.sal_hub.specs.HubHistory.{HubHistory}
 abbrev pub SeatView : Type 0
 SeatView = View Entry (List Domain)
 
--- the place inside, and none while it has its turn
+-- the place in the slot, or none while the seat has its turn
 abbrev pub inside : Option (Place Entry (List Domain)) → Place Entry (List Domain)
 inside (Some place) = place
 inside None = nowhere

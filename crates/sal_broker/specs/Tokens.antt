@@ -1,4 +1,4 @@
--- The tokens that a caller has stay tokens, whoever makes the entries after.
+-- The tokens of a caller stay tokens, whoever makes the later entries.
 use Rattle.std.specs.Prelude.{List}
 use Rattle.sal_rows.specs.declared.outcome.Mode.{Mode}
 use Rattle.sal_tree.specs.declared.commit.Pair.{Pair}

@@ -1,4 +1,4 @@
--- What a call does for a caller with a seat: one turn, and in it a call of the hub.
+-- The effect of a call for a caller with a seat: one turn, with a call of the hub.
 use Rattle.std.specs.Prelude.{◌≡◌, ◌⊎◌, ℕ}
 use Rattle.sal_history.specs.declared.call.Entry.{Entry}
 use Rattle.sal_hub.specs.HubHistory.{HubHistory, more}
@@ -6,13 +6,13 @@ use Rattle.sal_broker.specs.Seats.{SeatView, client_of, known}
 pub use Rattle.sal_turn.specs.Turns.{Keeps}
 use Rattle.sal_turn.specs.Turns as turns
 
--- the hub is as it was found, or has one entry more, of the seat's number
+-- the hub is unchanged, or has one more entry, of the seat's number
 abbrev pub OneMoreAtMost : SeatView → HubHistory → HubHistory → Type 0
 OneMoreAtMost v found left = (left ≡ found) ⊎ ((e : Entry) × (e.client ≡ v.number) × (left ≡ more found e))
 
--- A turn of a seat that knew v found a hub, over the seat's world: its log begins with all that the seat had seen, and the log's
+-- A turn of a seat that knew v found a hub, over the seat's world: the log seen is a prefix of its log, and the log's
 -- entries of the seat's number are the seat's own. The turn left a hub, and then the seat knows w: it has seen the log of that
--- hub, and its own entries have grown by what was added.
+-- hub, and its own entries have grown by the one added.
 abbrev pub TurnOf : SeatView → ℕ → HubHistory → HubHistory → SeatView → Type 0
 TurnOf = turns.TurnOf (λ (h : HubHistory). h.log) client_of (λ (h : HubHistory). h.world) known
 

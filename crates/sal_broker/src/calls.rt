@@ -42,7 +42,7 @@ impl Sal {
         answer
     }
 
-    /// Submits the transaction, which waits then to be decided. A refused transaction is given back.
+    /// Submits the transaction; it is then pending. A refused transaction is returned.
     pub fn submit<R: Wait>(
         &self,
         rt: &R,
@@ -64,7 +64,7 @@ impl Sal {
         answer
     }
 
-    /// Gives the transaction up.
+    /// Cancels the transaction.
     pub fn cancel<R: Wait>(
         &self,
         rt: &R,
@@ -126,7 +126,7 @@ impl Sal {
         answer
     }
 
-    /// Leaves the mark in the log.
+    /// Sets the mark in the log.
     pub fn mark<R: Wait>(
         &self,
         rt: &R,

@@ -40,8 +40,8 @@ impl Sal {
         answer
     }
 
-    /// Begins the next transaction of the chain in the mode: on the last submission of the chain while that is pending, and
-    /// else at the newest commit.
+    /// Begins the next transaction of the chain in the mode: it follows the last submission of the chain while that is pending, and
+    /// else its base is the newest commit.
     pub fn chain_begin<R: Wait>(
         &self,
         rt: &R,

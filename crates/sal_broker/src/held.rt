@@ -35,9 +35,9 @@ impl Model for Held {
 
     ghost coded = { Prim.hlevel (codes, e.the_row.coded) };
 
-    ghost view = { λ h. record { lock = h.inner.lock; view = h.inner.view; found = hub_with h.inner.view h.inner.found; hub = h.inner.value.hub } };
+    ghost view = { λ h. record { lock = h.inner.lock; view = h.inner.view; found = hub_with h.inner.view h.inner.found; hub = h.inner.value.hub.value } };
 
-    // The log that was found begins with all that the seat has seen, and its entries of the seat's number are the seat's own.
+    // The log seen is a prefix of the log that was found, whose entries of the seat's number are the seat's own.
     ghost invariant = { λ h.
         IsSome h.inner.view.ground
         × IsPrefix h.inner.view.seen h.inner.found
@@ -52,7 +52,7 @@ impl Held {
         self.inner.number()
     }
 
-    /// The hub. What its calls do is done to the hub, and nothing else changes.
+    /// The hub. A call through the reference changes the hub and nothing else.
     pub fn hub(&mut self) -> &mut Hub
         ensures* writes_back { sem 𝓛 (Lends the_row hub_row self.entry result (λ w. record self.old { hub = w })) }
         ensures value { result.now ≡ self.old.hub }
@@ -69,7 +69,7 @@ impl Held {
         self.hub().has_mark(mark)
     }
 
-    // The tokens of what the seat has seen are tokens of the hub that was found. These functions do nothing.
+    // The tokens of the log seen are tokens of the hub that was found. These functions do nothing.
 
     fn keeps_tokens(&self)
         ensures { TokensStay (known self.now.view) self.now.found }

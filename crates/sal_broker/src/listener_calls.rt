@@ -43,7 +43,7 @@ impl Sal {
         answer
     }
 
-    /// Takes what changed for the client's listener by each commit since its opening, or since what was taken last.
+    /// Takes the batch of the client's listener: the changes of each commit since its opening, or since its last batch.
     pub fn take<R: Wait>(
         &self,
         rt: &R,

@@ -23,10 +23,10 @@ use sal_rows::CallFault;
 use std::alloc::Global;
 use std::sync::Wait;
 
-/// How many looks for a mark are made at most.
+/// The largest number of looks for a mark.
 pub const MAX_LOOKS: u32 = 4194304;
 
-// Asks for the last time. Where the mark is not there, all looks were made.
+// The last look. If the mark is not set, all looks were made.
 fn last_look(alloc: Global, held: &mut Held, mark: u32) -> Result<Seen, CallFault>
     ensures same { held.new ≡ record held.old { hub = held.new.hub } }
     ensures answer { Calls held.old.hub held.new.hub (entry_of held.old.hub held.old.view.number (After mark)) seen_reply result }
@@ -43,12 +43,12 @@ fn last_look(alloc: Global, held: &mut Held, mark: u32) -> Result<Seen, CallFaul
 }
 
 impl Sal {
-    /// Looks, a turn each, until the mark is there or it was looked for `MAX_LOOKS` times: then it is late. The entry is made
+    /// Looks, a turn each, until the mark is set or `MAX_LOOKS` looks were made: then it is late. The entry is made
     /// in the last look.
     ///
     /// Between two looks it sleeps, and it looks no more often than the log grows. Once the log has not grown for about a second,
-    /// it makes the looks that are left without waiting, which takes less than a second more on a machine with little else to
-    /// do. Only one client at a time does so, so a client may wait for each of the others.
+    /// it makes the remaining looks without waiting, which takes less than another second on a machine with little other
+    /// load. Only one client at a time does so, so a client may wait for each of the others.
     pub fn after<R: Wait>(
         &self,
         rt: &R,
@@ -69,8 +69,8 @@ impl Sal {
         answer
     }
 
-    /// Takes turns, without an entry, until one finds a log that has the mark, or `MAX_LOOKS` turns were taken; that turn is
-    /// the caller's. If it is not the first, the log that the turn before it left, which the seat has seen, has no such mark: so no
+    /// Takes turns, without an entry, until one finds a log that has the mark, or `MAX_LOOKS` turns were taken; the caller keeps
+    /// that turn. If it is not the first, the log after the turn before it, which the seat has seen, has no such mark: so no
     /// turn follows one that found it. It waits between them as `after` does.
     pub fn enter_after<R: Wait>(&self, rt: &R, seat: Seat, mark: u32) -> Held
         requires { seat.lock ≡ self.now }

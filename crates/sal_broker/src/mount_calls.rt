@@ -34,7 +34,7 @@ impl Sal {
         answer
     }
 
-    /// Unmounts the domain. What was submitted of it and is still pending is decided as unmounted.
+    /// Unmounts the domain. Its pending submissions are decided as unmounted.
     pub fn unmount<R: Wait>(
         &self,
         rt: &R,
@@ -53,7 +53,7 @@ impl Sal {
         answer
     }
 
-    /// The domain that is mounted at the path, if one is.
+    /// The domain that is mounted at the path, if any.
     pub fn mount_at<R: Wait>(
         &self,
         rt: &R,

@@ -34,7 +34,7 @@ impl Sal {
         answer
     }
 
-    /// Offers the notification to its subscribers, and answers how many have got it: all of them, or none.
+    /// Offers the notification to its subscribers, and returns how many got it: all of them, or none.
     pub fn offer<R: Wait>(
         &self,
         rt: &R,

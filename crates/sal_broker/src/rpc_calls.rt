@@ -20,7 +20,7 @@ use std::alloc::Global;
 use std::sync::Wait;
 
 impl Sal {
-    /// Registers the client as the one who answers the RPC in the context, or without one. RPCs are numbers of nodes of the
+    /// Registers the client as the provider of the RPC in the context, or without one. RPCs are numbers of nodes of the
     /// controller's own schema, and contexts are paths of its own domain.
     pub fn provide<R: Wait>(
         &self,
@@ -61,7 +61,7 @@ impl Sal {
         answer
     }
 
-    /// Makes a request, which waits then for the client that provides the RPC in this context, or else without one.
+    /// Makes a request; it then waits for the client that provides the RPC in this context, or else without one.
     pub fn invoke<R: Wait>(
         &self,
         rt: &R,

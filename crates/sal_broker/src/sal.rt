@@ -45,8 +45,8 @@ impl Model for Sal {
 
 impl Sal {
     /// A broker without calls over the devices, of which the first is the controller's own domain, under the version rules, and its opening
-    /// seat. The opening trees of each fit at the root by version 0 of its schema, and each version extends the one before; the first device
-    /// alone has more than one (`Hub::open`).
+    /// seat. The opening trees of each fit at the root by version 0 of its schema, and each version extends the one before; only the first
+    /// device has more than one (`Hub::open`).
     pub fn open(alloc: Global, devices: Vec<Device>, rules: Rules) -> Result<(Sal, Seat), OpenFault>
         requires some { 1 ≤ length devices.items }
         requires few { length devices.items ≤ 64 }
@@ -59,18 +59,19 @@ impl Sal {
         Ok(opened)
     }
 
-    /// A broker over the hub, which has no calls yet, and its opening seat. For want of memory the hub is dropped.
+    /// A broker over the hub, which has no calls yet, and its opening seat. If memory runs out, the hub is dropped.
     pub fn over(alloc: Global, hub: Hub) -> Result<(Sal, Seat), NoMemory>
         requires { hub.log ≡ [] }
         ensures { IfOk result (λ r. (r.1.lock ≡ r.0) × (r.1.view ≡ opener 65535 hub.world)) }
     {
+        let hub = Box::new(alloc, hub)?;
         let (lock, seat) = Turn::open(alloc, Shared { hub }, OPENING_NUMBER)?;
         let growth = Growth::new();
         Ok((Sal { lock, growth }, Seat { inner: Some(seat) }))
     }
 
-    /// Waits for the seat's turn, and takes it. The hub that it finds has a log that begins with all that the seat has seen, in
-    /// which the entries of its number are its own.
+    /// Waits for the seat's turn, and takes it. The log seen is a prefix of the log of the hub that it finds, in
+    /// which the entries of the seat's number are its own.
     pub fn enter<R: Wait>(&self, rt: &R, seat: Seat) -> Held
         requires { seat.lock ≡ self.now }
         ensures same { (result.lock ≡ self.now) × (result.view ≡ seat.view) }
@@ -88,7 +89,7 @@ impl Sal {
         }
     }
 
-    // Waits for the turn of the seat in the place, and takes it. The place is empty until the turn ends.
+    // Waits for the turn of the seat in the slot, and takes it. The slot is empty until the turn ends.
     pub(crate) fn take_turn<R: Wait>(
         &self,
         rt: &R,
@@ -109,7 +110,7 @@ impl Sal {
         self.enter(rt, Seat { inner: Some(inner) })
     }
 
-    /// Ends a turn. The hub is as it was found, or has one entry more, of the seat's number; the seat has then seen its log.
+    /// Ends a turn. The hub is unchanged, or has one more entry, of the seat's number; the seat has then seen its log.
     pub fn leave(&self, held: Held) -> Seat
         requires lock { held.lock ≡ self.now }
         requires added { OneMoreAtMost held.view held.found held.hub }
@@ -124,7 +125,7 @@ impl Sal {
         }
     }
 
-    /// A new seat with a number that no seat has had. It has seen what the giver has, and has no entries of its own.
+    /// A new seat with a number that no seat has had. It has seen the same entries as the giver, and has no own entries.
     pub fn split(&self, seat: &mut Seat, number: u32) -> Seat
         requires lock { seat.old.lock ≡ self.now }
         requires may_split { seat.old.view.splits ≡ true }
@@ -140,7 +141,7 @@ impl Sal {
         Seat { inner: Some(new) }
     }
 
-    /// The first seat with all that the second knew: the longer of the two logs seen, of which the shorter is a beginning, and
+    /// The first seat with all that the second knew: the longer of the two logs seen, of which the shorter is a prefix, and
     /// the second's number with its own entries among those joined.
     pub fn join(&self, a: Seat, b: Seat) -> Seat
         requires locks { (a.lock ≡ self.now) × (b.lock ≡ self.now) }
@@ -158,7 +159,7 @@ impl Sal {
         }
     }
 
-    /// The hub, once every other seat was joined. Of each number that the seat answers for the log's entries are those known,
+    /// The hub, once every other seat was joined. For each number that the seat answers for, the log's entries are those known,
     /// in order, and it has no others.
     pub fn close(self, seat: Seat) -> Hub
         requires lock { seat.lock ≡ self }
@@ -175,6 +176,6 @@ impl Sal {
         let Seat { inner } = seat;
         let Some(inner) = inner else { unreachable!() };
         let Shared { hub } = lock.close(inner);
-        hub
+        Box::into_inner(hub)
     }
 }

@@ -5,13 +5,13 @@ use sal_rows::Rules;
 use sal_turn::Chronicle;
 use std::marker::Model;
 
-/// The hub under the lock. A contract sees it as the hub.
+/// The hub under the lock, in a box, so that a turn moves a pointer. A contract sees it as the hub.
 #[derive(Drop)]
 pub(crate) struct Shared {
-    pub(crate) hub: Hub,
+    pub(crate) hub: Box<Hub>,
 }
 
-/// The domains of a hub with their opening trees and their version rules. No value of it is made.
+/// The domains of a hub with their opening trees and their version rules. No value of it exists at run time.
 pub(crate) struct World {
     devices: Vec<Device>,
     rules: Rules,
@@ -38,9 +38,9 @@ impl Chronicle for Shared {
 
     type Ground = World;
 
-    ghost entries = { λ s. s.hub.log };
+    ghost entries = { λ s. s.hub.value.log };
 
     ghost client = { client_of };
 
-    ghost ground = { λ s. s.hub.world };
+    ghost ground = { λ s. s.hub.value.world };
 }

@@ -15,8 +15,8 @@ use std::alloc::Global;
 use std::sync::Wait;
 
 impl Sal {
-    /// Goes over to the next version of the schema of the controller's own domain, unless a newest tree would break a structural rule
-    /// by it. The version is one of those that the broker was opened with.
+    /// Makes the next version of the schema of the controller's own domain the present one, unless a newest tree would break a structural rule
+    /// of it. The version is one of those of the broker's opening.
     pub fn upgrade<R: Wait>(
         &self,
         rt: &R,

@@ -4,8 +4,8 @@ use std::sync::atomic::AtomicU64;
 use std::sync::atomic::Ordering::SeqCst;
 use std::time::Duration;
 
-// The first pauses are no sleeps, but as many looks at the length each, some 30 microseconds in all: the mark is often there soon,
-// and a running thread is not kept from it by others that wait for a processor.
+// The first pauses are not sleeps, but this many looks at the length each, some 30 microseconds in all: often the mark is set soon,
+// and other waiting threads do not delay a running one.
 const SHORT_PAUSES: u32 = 8;
 
 const GLANCES: u32 = 4096;
@@ -15,10 +15,10 @@ const FIRST_SLEEP: u64 = 32;
 
 const DOUBLINGS: u32 = 6;
 
-// After so many pauses in a row without a new entry, of about a second in all, a client waits no longer between its looks.
+// After this many pauses in a row without a new entry, about a second in all, a client no longer waits between its looks.
 const MOST_PAUSES: u32 = 512;
 
-/// What the clients that look for marks share: how many entries the log had when the last turn with one ended, and whether
+/// Shared by the clients that look for marks: how many entries the log had when the last turn with one ended, and whether
 /// one of them makes its looks without waiting.
 #[derive(Drop)]
 pub(crate) struct Growth {
@@ -27,7 +27,7 @@ pub(crate) struct Growth {
 }
 
 impl Growth {
-    /// Of an empty log.
+    /// For an empty log.
     pub(crate) fn new() -> Growth {
         Growth {
             length: AtomicU64::new(0),
@@ -35,7 +35,7 @@ impl Growth {
         }
     }
 
-    /// Stores how many entries the log has. The caller has the turn.
+    /// Stores the number of entries of the log. The caller has the turn.
     pub(crate) fn tell(&self, length: usize) {
         let length = length as u64;
         if self.length.load(SeqCst) != length {
@@ -43,7 +43,7 @@ impl Growth {
         }
     }
 
-    // Looks at the length until it is another one, or so many times.
+    // Looks at the length until it changes, `GLANCES` times at most.
     fn watch(&self, length: u64) {
         for _ in 0..GLANCES {
             if self.length.load(SeqCst) != length {
@@ -52,7 +52,7 @@ impl Growth {
         }
     }
 
-    // Sleeps for as long, or not at all where the length is another one.
+    // Sleeps for as long, or not at all if the length has changed.
     fn sleep<R: Wait>(&self, rt: &R, length: u64, micros: u64) {
         let expected = (length & 0xffff_ffff) as u32;
         self.length
@@ -79,7 +79,7 @@ impl Patience {
         }
     }
 
-    // Whether the log has grown since it was asked last.
+    // Whether the log has grown since the last look.
     fn has_grown(&mut self, growth: &Growth) -> bool {
         let length = growth.length.load(SeqCst);
         let grown = length != self.length;

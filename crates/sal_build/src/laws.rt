@@ -1,4 +1,4 @@
-//! Laws of the definitions: the table that modules have is one of a schema. A call does nothing: its clause is the law.
+//! Laws of the definitions: the table of modules is the table of a schema. A call does nothing: its clause is the law.
 ghost use Rattle.std.specs.Prelude.{◌≡◌, true, false, codes, [], ◌∷◌, None};
 ghost use Rattle.sal_restrict.specs.declared.yang_type.YangType.TheOpen.{YangType-F};
 ghost use Rattle.sal_build.specs.Laws.{has_members, is_bounded, is_placed, is_spelled, BitsAreSpelled, CallNamesDiffer, CallsStandAtTheTop, DataNamesDiffer, IdentitiesAreGood, IdentitiesAreStatements, IdentityNamesDiffer, KeysAreInside, KeysAreThere, LeafsAreTyped, ModuleNamesDiffer, ModulesAreNamed, NamesArePlaced, NodesAreNamed, NodesStandRight, NumbersAreThere, TablesAreSmall, TablesAreTables, TypesAreBounded, TypesAreFlat, UnionsHaveMembers, UniquesAreBelow};
@@ -6,7 +6,8 @@ ghost use Rattle.sal_stmt.specs.Text.{made};
 ghost use Rattle.sal_build.specs.Versions.{VersionsExtend, VersionsAreTables, FirstIsTable, FirstIsBuilt};
 ghost use Rattle.sal_build.specs.Readable.{are_readable, has_own_places, is_shallow, ReadIsCounted, ReadIsInOrder, ReadIsReadable};
 
-/// The statements of a text of fewer than 2 ^ 32 bytes stand in its order: each before those in its block, and these before the next one.
+/// The offsets of the statements of a text of fewer than 2 ^ 32 bytes ascend: each statement's is less than those in its block, and these less
+/// than the next one's.
 pub fn what_is_read_is_in_order()
     ensures { ReadIsInOrder }
 {}
@@ -16,13 +17,13 @@ pub fn what_is_read_is_counted()
     ensures { ReadIsCounted }
 {}
 
-/// Statements that are read from texts of fewer than 2 ^ 32 bytes in all are readable: no two of a text have one place, blocks are open 64 deep at most, and
+/// Statements read from texts of fewer than 2 ^ 32 bytes in all are readable: the offsets in one text differ, blocks are nested at most 64 deep, and
 /// there are fewer than 2 ^ 32 statements.
 pub fn what_is_read_is_readable()
     ensures { ReadIsReadable }
 {}
 
-/// Each module is named by an identifier.
+/// The name of each module is an identifier.
 pub fn modules_are_named()
     ensures { ModulesAreNamed }
 {}
@@ -37,22 +38,22 @@ pub fn tables_are_small()
     ensures { TablesAreSmall }
 {}
 
-/// The numbers of parent, module and type of a node are those of a node before it, a module and a type.
+/// The parent of a node has a smaller number, and its module and its type exist.
 pub fn numbers_are_there()
     ensures { NumbersAreThere }
 {}
 
-/// Each name stands for one module.
+/// Names of modules differ.
 pub fn module_names_differ()
     ensures { ModuleNamesDiffer }
 {}
 
-/// Each identity is named by an identifier, in a module that is there; what it is derived from are other identities.
+/// The name of each identity is an identifier, its module exists, and it is derived from other identities.
 pub fn identities_are_good()
     ensures { IdentitiesAreGood }
 {}
 
-/// The leafs of a `unique` are leafs below their list with no list between.
+/// The leafs of a `unique` are leafs below their list, with no list between.
 pub fn uniques_are_below()
     ensures { UniquesAreBelow }
 {}
@@ -62,17 +63,17 @@ pub fn keys_are_inside()
     ensures { KeysAreInside }
 {}
 
-/// Each name stands for one identity of a module.
+/// Names of identities of one module differ.
 pub fn identity_names_differ()
     ensures { IdentityNamesDiffer }
 {}
 
-/// Where each statement of a module has a place of its own, each node is named by an identifier.
+/// If the offsets in each module differ, the name of each node is an identifier.
 pub fn nodes_are_named()
     ensures { NodesAreNamed }
 {}
 
-/// And just lists have keys: at least one, and none stands twice.
+/// If the offsets in each module differ, exactly the lists have keys: at least one, and no key occurs twice.
 pub fn keys_are_there()
     ensures { KeysAreThere }
 {}
@@ -82,54 +83,55 @@ pub fn types_are_flat()
     ensures { TypesAreFlat }
 {}
 
-/// Integers have 8, 16, 32 or 64 bits and decimals 1 to 18 digits, and their ranges lie within the bits; the bases of an identityref are identities; no
+/// Integers have 8, 16, 32 or 64 bits and decimals 1 to 18 digits, and their ranges fit the bits; the bases of an identityref are identities; no
 /// leafref is left, and no member of a union is a union.
 pub fn types_are_bounded()
     ensures { TypesAreBounded }
 {}
 
-/// The names of an enumeration or of bits are distinct, and so are as many places; those of bits lie below 64.
+/// The names of an enumeration or of bits differ, and so do their places, one for each name; those of bits are below 64.
 pub fn names_are_placed()
     ensures { NamesArePlaced }
 {}
 
-/// Where each statement of a module has a place of its own, each name stands for one node for data below each parent, looked for through
-/// choices and cases.
+/// If the offsets in each module differ, the names of the data nodes below each parent differ, where the children of choices and
+/// cases count as the parent's.
 pub fn data_names_differ()
     ensures { DataNamesDiffer }
 {}
 
-/// And each name of a module stands for one RPC, and for one notification.
+/// If the offsets in each module differ, the names of a module's RPCs differ, and those of its notifications.
 pub fn call_names_differ()
     ensures { CallNamesDiffer }
 {}
 
-/// RPCs and notifications stand at the top.
+/// RPCs and notifications are at the top.
 pub fn calls_stand_at_the_top()
     ensures { CallsStandAtTheTop }
 {}
 
-/// And leafs and leaf-lists have no children, the children of choices are cases, those of RPCs inputs and outputs, and these stand nowhere else.
+/// If the offsets in each module differ: leafs and leaf-lists have no children, the children of choices are cases, those of RPCs inputs and
+/// outputs, and these are nowhere else.
 pub fn nodes_stand_right()
     ensures { NodesStandRight }
 {}
 
-/// Where each statement of a module has a place of its own, and blocks are open 64 deep at most, bits are named by identifiers.
+/// If the offsets in each module differ and blocks are nested at most 64 deep, the names of bits are identifiers.
 pub fn bits_are_spelled()
     ensures { BitsAreSpelled }
 {}
 
-/// There are no more identities than statements.
+/// There are at most as many identities as statements.
 pub fn identities_are_statements()
     ensures { IdentitiesAreStatements }
 {}
 
-/// Where each statement of a module has a place of its own, and blocks are open 64 deep at most, unions have members.
+/// If the offsets in each module differ and blocks are nested at most 64 deep, unions have members.
 pub fn unions_have_members()
     ensures { UnionsHaveMembers }
 {}
 
-/// Of statements as they are read from texts the table is one of a schema.
+/// The table of statements that are read from texts is the table of a schema.
 pub fn tables_are_tables()
     ensures { TablesAreTables }
 {}
@@ -139,18 +141,18 @@ pub fn versions_extend()
     ensures { VersionsExtend }
 {}
 
-/// The first version has the table of `build`, or its fault; of statements as they are read from texts it is the table of a schema.
+/// The first version has the table of `build`, or its fault; for statements that are read from texts it is the table of a schema.
 pub fn first_versions_are_tables()
     ensures table { FirstIsTable }
     ensures built { FirstIsBuilt }
 {}
 
-/// Of statements as they are read from texts the next version has the table of a schema where the older one has.
+/// For statements that are read from texts the next version has the table of a schema if the older one has.
 pub fn versions_are_tables()
     ensures { VersionsAreTables }
 {}
 
-/// Types that the tests of the laws let pass, and types that they refuse.
+/// Types that the tests of the laws accept, and types that they refuse.
 pub fn examples_of_types()
     ensures width { is_bounded 0 (YangType-F.Int 8 true []) ≡ true }
     ensures no_width { is_bounded 0 (YangType-F.Int 9 true []) ≡ false }
@@ -167,7 +169,7 @@ pub fn examples_of_types()
     ensures no_members { has_members (YangType-F.Union []) ≡ false }
 {}
 
-/// Trees of statements that are as they are read from a text, and such as no text gives.
+/// Trees of statements that a text can have, and trees that no text has.
 pub fn examples_of_trees()
     ensures own_places { has_own_places (made 0 (codes "a", None) (made 3 (codes "b", None) [] ∷ [])) ≡ true }
     ensures one_place { has_own_places (made 3 (codes "a", None) (made 3 (codes "b", None) [] ∷ [])) ≡ false }

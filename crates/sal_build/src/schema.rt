@@ -12,10 +12,10 @@ use sal_schema::Schema;
 use sal_stmt::Stmt;
 use std::alloc::Global;
 
-/// The schema of these modules, or their first fault, as `table_of_modules` has it.
+/// The schema of these modules, or their first fault, as `table_of_modules` returns it.
 ///
-/// The statements are to be as they are read from texts of fewer than 2^32 bytes in all. That the table is then one of a schema is
-/// proved, so nothing tests it.
+/// The statements must be as they are read from texts of fewer than 2^32 bytes in all. It is proved that their table is that of a
+/// schema, so no test of it runs.
 pub fn build(alloc: Global, stmts: &[Stmt]) -> Result<Schema, BuildFault>
     requires { IsTrue (are_readable stmts.now) }
     ensures { GivesUnless Fault.NoMemory (λ schema. schema) result (spec.build stmts.now) }
@@ -25,7 +25,7 @@ pub fn build(alloc: Global, stmts: &[Stmt]) -> Result<Schema, BuildFault>
     Ok(Schema::from_table(alloc, table)?)
 }
 
-/// The same of statements that nobody needs any more: none is copied.
+/// The same for statements that the function owns: none is copied.
 pub fn build_owned(alloc: Global, stmts: Vec<Stmt>) -> Result<Schema, BuildFault>
     requires { IsTrue (are_readable stmts.items) }
     ensures { GivesUnless Fault.NoMemory (λ schema. schema) result (spec.build stmts.items) }

@@ -18,7 +18,7 @@ use sal_stmt::Stmt;
 use sal_types::NoMemory;
 use std::alloc::Global;
 
-/// A version of a schema, and the nodes from which the next version grows.
+/// A version of a schema, and the nodes with which the next version begins.
 #[derive(Drop)]
 pub struct SchemaVersion {
     pub growth: Growth,
@@ -56,8 +56,8 @@ pub fn build_first(alloc: Global, stmts: &[Stmt]) -> Result<SchemaVersion, Build
 
 /// The next version, of all these statements, or their first fault. The first `old` statements are those of the older version.
 ///
-/// The faults are those of `build` over all statements, and `OldIdentity`. The numbers of the older version stay, with all that it says of them. The new
-/// modules' own nodes follow, then the nodes of their augments.
+/// The faults are those of `build` over all statements, and `OldIdentity`. The numbers of the older version stay, with their lines of the table. The
+/// nodes of the new modules follow, then the nodes of their augments.
 pub fn build_on(
     alloc: Global,
     stmts: &[Stmt],

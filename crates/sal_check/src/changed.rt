@@ -1,4 +1,4 @@
-//! The walk over two trees: what changed from the one to the other.
+//! The walk over two trees: the changes from the one to the other.
 ghost use Rattle.std.specs.Prelude.{◌≡◌, ◌<◌, length, IfOk, Some};
 ghost use Rattle.std.specs.List.{fold, flat_map};
 ghost use Rattle.sal_node.specs.Shape.{tree_at};
@@ -20,7 +20,7 @@ use sal_tree::{child_of, reached};
 use sal_types::{NoMemory, Step};
 use std::sync::Arc;
 
-/// What a walk over two trees goes by: what one over the second of them does, and the stamps that the change gave.
+/// The input of a walk over two trees: that of a walk over the second, and the stamps of the change.
 #[derive(Drop)]
 pub(crate) struct Near<'a> {
     pub(crate) walk: Walk<'a>,
@@ -48,7 +48,7 @@ fn is_kept(stamps: &[u64], node: Option<&Arc<Node>>) -> bool
 }
 
 impl<'w> Near<'w> {
-    // Whether the list at a place is the one before.
+    // Whether the list at a place is the same as before.
     fn has_same_list(&self, before: &Arc<Node>, after: &Arc<Node>, number: u32) -> bool
         requires after { IsGrove after.now.value.kids }
         requires number { number < length self.now.walk.schema.now.nodes }
@@ -60,7 +60,7 @@ impl<'w> Near<'w> {
         is_kept(self.stamps, child_of(Some(after), &Step::Node(number)))
     }
 
-    // Whether the list below a place is the one before, and this many entries were demanded then.
+    // Whether the list below a place is the same as before, and at least this many entries were required then.
     fn has_same_minimum(
         &self,
         before: &Arc<Node>,
@@ -84,7 +84,7 @@ impl<'w> Near<'w> {
         Ok(is_kept(self.stamps, reached(Some(after), &steps)))
     }
 
-    // Whether the stamps say that a rule is kept where it was kept before.
+    // Whether the stamps show that a rule is still kept, if it was kept before.
     fn is_settled(
         &self,
         before: Option<&Arc<Node>>,
@@ -106,7 +106,7 @@ impl<'w> Near<'w> {
         }
     }
 
-    // The least breach with that of one rule, where it is not settled.
+    // The least breach with that of one rule, unless it is settled.
     fn judge(
         &self,
         before: Option<&Arc<Node>>,

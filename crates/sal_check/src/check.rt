@@ -15,10 +15,10 @@ use sal_tree::Root;
 use sal_types::{NoMemory, Store};
 use std::alloc::Global;
 
-/// The breach with the smallest path, then the smallest rule, then the smallest node; none where no rule is broken.
+/// The breach with the smallest path, then the smallest rule, then the smallest node; none if no rule is broken.
 ///
-/// It looks at each node of the tree once, and at the entries of a list once more for each rule of the list. What it has
-/// to work out of the schema first a `Plan` has: `check_by` does not work it out anew.
+/// It looks at each node of the tree once, and at the entries of a list once more for each rule of the list. A `Plan` has
+/// what is computed from the schema first: `check_by` does not compute it again.
 pub fn check_all(
     alloc: Global,
     schema: &Schema,
@@ -45,10 +45,10 @@ pub fn check_by(
     whole(&walk, root)
 }
 
-/// The breach of a tree, as `check_all` has it, where the tree before it has none and the tree was made of that one by
-/// a change that gave these stamps.
+/// The breach of a tree, as `check_all` returns it, if the tree before it has none and the tree was made from it by
+/// a change with these stamps.
 ///
-/// It looks at the nodes with these stamps alone: a list is looked at for a rule of its own only where something in it
+/// It looks only at the nodes with these stamps: a list is checked for its own rules only if something in it
 /// changed.
 pub fn check_near(
     alloc: Global,

@@ -1,4 +1,4 @@
-//! How many entries a list has.
+//! The number of entries of a list.
 ghost use Rattle.std.specs.Prelude.{◌≡◌, ◌≤◌, IfOk, length, is_some, if◌then◌else◌};
 ghost use Rattle.sal_node.specs.Shape.{tree_at};
 ghost use Rattle.sal_tree.specs.Grow.{kids_in};
@@ -9,7 +9,7 @@ use sal_types::NoMemory;
 use std::alloc::Global;
 use std::sync::Arc;
 
-// One where the child has a cell.
+// One if the child has a cell.
 fn own(child: &Child) -> usize
     ensures value { result ≡ (if is_some child.now.node.value.cell then 1 else 0) }
     ensures few { result ≤ 1 }

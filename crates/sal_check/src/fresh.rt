@@ -1,4 +1,4 @@
-//! Entries of a changed list that agree in the leafs of a `unique` statement, where none did before.
+//! Entries of a changed list that agree in the leafs of a `unique` statement, if none did before.
 ghost use Rattle.std.specs.Prelude.{◌≡◌, ◌<◌, ◌++◌, ◌&&◌, List, [], length, map, Some, IfOk, OnOk, if◌then◌else◌};
 ghost use Rattle.std.specs.List.{list_any, flat_map};
 ghost use Rattle.std.specs.Option.{option_map};
@@ -25,7 +25,7 @@ use std::alloc::Global;
 use std::collections::BTreeSet;
 use std::sync::Arc;
 
-/// Whether two entries of a list agree in all leafs of one of its `unique` statements, where none did before.
+/// Whether two entries of a list agree in all leafs of one of its `unique` statements, if none did before.
 pub(crate) fn repeats_freshly(
     near: &Near,
     before: &Arc<Node>,
@@ -75,8 +75,8 @@ fn agree(
     earlier.agree(list)
 }
 
-/// A list as it was before a change, with the steps from an entry to the leafs that are compared, and the stamps that the
-/// change gave.
+/// A list as it was before a change, with the steps from an entry to the leafs that are compared, and the stamps of the
+/// change.
 #[derive(Drop)]
 struct Earlier<'a> {
     alloc: Global,
@@ -112,7 +112,7 @@ impl<'e> Earlier<'e> {
         self.occurs(fresh, list)
     }
 
-    // The cells of the entries that have other ones than before.
+    // The cells of the entries whose cells changed.
     fn fresh_cells<'a>(&self, list: &'a Arc<Node>) -> Result<Vec<Vec<&'a Cell>>, NoMemory>
         requires before { IsSound (tree_at self.now.list) }
         requires sound { IsGrove list.now.value.kids }
@@ -126,7 +126,7 @@ impl<'e> Earlier<'e> {
         Ok(found)
     }
 
-    // Puts the cells of the child at the end, where they are others than those of the entry before.
+    // Appends the cells of the child, if they differ from those of the entry before.
     fn add_fresh<'a>(
         &self,
         found: &mut Vec<Vec<&'a Cell>>,
@@ -160,7 +160,7 @@ impl<'e> Earlier<'e> {
         cells_at(self.alloc, entry, self.ways)
     }
 
-    // Whether the cells are not those of the entry before.
+    // Whether the cells differ from those of the entry before.
     fn differ(&self, before: Option<&Arc<Node>>, cells: &[&Cell]) -> Result<bool, NoMemory>
         requires { IsSound (tree_at before) }
         ensures { IfOk result (λ b. b ≡ spec.differs (spec.leafs_of (ways_in self.now.ways.now) (tree_at before.entry)) (Some (cells_in cells.now))) }

@@ -7,16 +7,16 @@ ghost use Rattle.sal_tree.specs.Graft.{Setting, Touch, IsGrafted, CanGraft};
 ghost use Rattle.sal_tree.specs.History.{IsOneOf};
 ghost use Rattle.sal_check.specs.Near.{BreaksNearAChange, TooManyNearAChange, RepeatsNearAChange, Keeps};
 
-/// A rule that is newly broken at a place has a row that came, went or changed below that place; too many entries and
-/// entries that agree have it in their list.
+/// If a rule is newly broken at a place, a row was added, removed or changed below that place; for too many entries and
+/// entries that agree it is in their list.
 pub fn rules_break_near_changes()
     ensures place { BreaksNearAChange }
     ensures too_many { TooManyNearAChange }
     ensures repeats { RepeatsNearAChange }
 {}
 
-/// What `check_near` asks of two trees: what an edit with one stamp made keeps all nodes but those with the stamp, and so
-/// does what edit after edit made, whatever stamps the tree before has; a graft keeps the tip but for the nodes with the
+/// The condition of `check_near` on two trees: an edit with one stamp keeps all nodes but those with the stamp, and so
+/// do several edits, for any stamps in the tree before; a graft keeps the tip except for the nodes with the
 /// view's own stamp and the fresh one.
 pub fn what_was_made_keeps()
     ensures edit { (stamp : ℕ) (touched : List Step → Bool) (before after : Tree) → Follows (exactly stamp) touched before after → Keeps (stamp ∷ []) before after }

@@ -1,4 +1,4 @@
-//! Which nodes of a schema are judged at which places: a list for each place's node.
+//! Which nodes of a schema are checked at which places: a list for each place's node.
 ghost use Rattle.std.specs.Prelude.{◌≡◌, ◌<◌, ◌+◌, ◌||◌, ◌++◌, ◌∷◌, [], ℕ, length, IfOk, OnOk, nat_eq, slice_index_or, if◌then◌else◌};
 ghost use Rattle.std.specs.List.{All};
 ghost use Rattle.std.specs.declared.alloc.Global.{Global as Heap};
@@ -11,7 +11,7 @@ use sal_schema::{Schema, add_to_list, empty_lists};
 use sal_types::NoMemory;
 use std::alloc::Global;
 
-/// For the root, and then for each node, the nodes that are judged at its place: those that state a rule.
+/// For the root, and then for each node, the nodes that are checked at its place: those that state a rule.
 #[derive(Drop)]
 pub(crate) struct Lists {
     pub(crate) lists: Vec<Vec<u32>>,
@@ -19,7 +19,7 @@ pub(crate) struct Lists {
     pub(crate) any: bool,
 }
 
-// Puts the number into two lists, or once where they are the same.
+// Adds the number to two lists, or once if they are the same.
 fn add_to_both(
     lists: &mut Vec<Vec<u32>>,
     at: usize,
@@ -48,7 +48,7 @@ fn slot(node: Option<u32>) -> usize
 }
 
 impl Lists {
-    /// Those of a schema.
+    /// The lists of a schema.
     pub(crate) fn of(alloc: Global, schema: &Schema) -> Result<Lists, NoMemory>
         ensures { IfOk result (λ made. AreJudged schema.now made.lists.items made.any) }
     {
@@ -66,7 +66,7 @@ impl Lists {
         Ok(Lists { lists, any })
     }
 
-    /// The nodes that are judged at the place of this one.
+    /// The nodes that are checked at the place of this one.
     pub(crate) fn judged(&self, schema: &Schema, at: Option<u32>) -> &[u32]
         requires { AreJudged schema.now self.now.lists.items self.now.any }
         ensures numbers { result.now ≡ judged schema.now at }

@@ -1,4 +1,4 @@
-//! What is worked out of a schema once, for all checks of its trees.
+//! The part of a check that depends only on the schema, computed once for all its trees.
 ghost use Rattle.std.specs.Prelude.{◌≡◌, IfOk};
 ghost use Rattle.sal_check.specs.Nodes.{AreJudged};
 
@@ -8,7 +8,7 @@ use sal_types::NoMemory;
 use std::alloc::Global;
 use std::sync::Arc;
 
-/// A schema, and which of its nodes are judged at which places of its trees: those that state a rule.
+/// A schema, and which of its nodes are checked at which places of its trees: those that state a rule.
 #[derive(Drop)]
 pub struct Plan {
     pub schema: Arc<Schema>,

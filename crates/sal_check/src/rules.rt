@@ -1,4 +1,4 @@
-//! The rules of one node, judged at a place of a tree.
+//! The rules of one node, checked at a place of a tree.
 ghost use Rattle.std.specs.Prelude.{◌≡◌, ◌<◌, ◌≤◌, ◌||◌, length, IfSome, IfOk, Option, Some, if◌then◌else◌};
 ghost use Rattle.sal_node.specs.Shape.{tree_at};
 ghost use Rattle.sal_node.specs.Tree.{IsGrove};
@@ -18,9 +18,9 @@ use sal_tree::{child_of, is_present, reached};
 use sal_types::{NoMemory, Step};
 use std::sync::Arc;
 
-// ---- what a place has
+// ---- the data at a place
 
-// A choice or a case is there where a node in it is. Choices and cases lie at most so deep in one another.
+// A choice or a case is present if a node in it is. Choices and cases are nested at most `deep` levels.
 fn is_there(schema: &Schema, node: Option<&Arc<Node>>, number: u32, deep: u32) -> bool
     requires sound { IsSound (tree_at node) }
     requires number { number < length schema.now.nodes }
@@ -48,9 +48,9 @@ fn stands(schema: &Schema, node: Option<&Arc<Node>>, number: u32) -> bool
     is_there(schema, node, number, schema.len())
 }
 
-// ---- what is demanded
+// ---- required nodes
 
-// Whether what has this context, and lies so many steps below it, is demanded.
+// Whether a node with this context is required; `way` has the steps to it from there.
 pub(crate) fn is_demanded(
     schema: &Schema,
     node: Option<&Arc<Node>>,
@@ -76,7 +76,7 @@ fn is_case(kind: Kind) -> bool
     kind == Kind::Case
 }
 
-// ---- what a node states
+// ---- the statements of a node
 
 fn is_required(schema: &Schema, number: u32) -> bool
     requires { number < length schema.now.nodes }
@@ -122,7 +122,7 @@ pub(crate) fn states(schema: &Schema, number: u32) -> bool
 
 // ---- the rules
 
-/// Whether a mandatory leaf is absent, or no node of a mandatory choice is there.
+/// Whether a mandatory leaf is absent, or a mandatory choice has no node.
 pub(crate) fn is_missing(walk: &Walk, place: &Place, number: u32) -> Result<bool, NoMemory>
     requires sound { IsGrove place.now.node.now.value.kids }
     requires number { number < length walk.now.schema.now.nodes }
@@ -183,7 +183,7 @@ fn one_if_there(schema: &Schema, node: Option<&Arc<Node>>, number: u32) -> usize
     if stands(schema, node, number) { 1 } else { 0 }
 }
 
-/// Whether nodes of two cases of a choice are there.
+/// Whether two cases of a choice have nodes.
 pub(crate) fn has_two_cases(walk: &Walk, place: &Place, number: u32) -> bool
     requires sound { IsGrove place.now.node.now.value.kids }
     requires number { number < length walk.now.schema.now.nodes }

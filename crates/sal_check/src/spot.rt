@@ -8,7 +8,7 @@ use sal_rules::Spot;
 use sal_schema::Schema;
 use sal_types::Step;
 
-/// Where a step leads from a place.
+/// The place after a step.
 pub(crate) fn after_step(schema: &Schema, spot: Spot, step: &Step) -> Spot
     ensures { result ≡ spec.after_step schema.now spot step.now }
 {

@@ -1,4 +1,4 @@
-//! The steps down to a place, and paths made of them.
+//! The steps down to a place, and their paths.
 ghost use Rattle.std.specs.Prelude.{◌≡◌, ◌<◌, ◌++◌, ◌∷◌, [], length, IfOk};
 ghost use Rattle.sal_check.specs.Nodes.{steps_in};
 ghost use Rattle.sal_check.specs.Paths.{joined};
@@ -27,7 +27,7 @@ pub(crate) fn longer<'a>(
     Ok(list)
 }
 
-// The path of these steps, or none where they are too many.
+// The path of these steps, or none if they are too many.
 fn path_of(alloc: Global, trail: &[&Step]) -> Result<Option<Path>, NoMemory>
     ensures { IfOk result (λ path. path ≡ joined [] (steps_in trail.now)) }
 {
@@ -44,7 +44,7 @@ fn path_of(alloc: Global, trail: &[&Step]) -> Result<Option<Path>, NoMemory>
     Ok(Some(path))
 }
 
-// The path with more steps, or none where they are too many.
+// The path with more steps, or none if they are too many.
 fn gone_on(path: Path, steps: &[Step]) -> Result<Option<Path>, NoMemory>
     ensures { IfOk result (λ r. r ≡ joined path steps.now) }
 {
@@ -61,7 +61,7 @@ fn gone_on(path: Path, steps: &[Step]) -> Result<Option<Path>, NoMemory>
     }
 }
 
-// The steps from where a rule is judged to where it is broken.
+// The steps from where a rule is checked to where it is broken.
 fn steps_to(alloc: Global, schema: &Schema, rule: Rule) -> Result<Vec<Step>, NoMemory>
     requires { node_of_rule rule < length schema.now.nodes }
     ensures { IfOk result (λ steps. steps.items ≡ steps_to schema.now rule) }
@@ -82,7 +82,7 @@ fn steps_to(alloc: Global, schema: &Schema, rule: Rule) -> Result<Vec<Step>, NoM
     }
 }
 
-/// The path at which a rule is broken that is judged at the end of the trail, or none where it is too long.
+/// The path at which a rule is broken that is checked at the end of the trail, or none if it is too long.
 pub(crate) fn place_of(
     alloc: Global,
     schema: &Schema,

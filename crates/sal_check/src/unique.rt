@@ -60,7 +60,7 @@ pub(crate) fn cells_at<'a>(
     }
 }
 
-// Puts the cells at these paths at the end, if the child is an entry that has them all.
+// Appends the cells at these paths, if the child is an entry that has them all.
 fn add_cells<'a>(
     alloc: Global,
     found: &mut Vec<Vec<&'a Cell>>,

@@ -21,7 +21,7 @@ use sal_types::{NoMemory, Step, Store};
 use std::alloc::Global;
 use std::sync::Arc;
 
-/// What a walk over a tree goes by: a schema, the nodes that are judged at each place, and the store of the tree.
+/// The input of a walk over a tree: a schema, the nodes that are checked at each place, and the store of the tree.
 #[derive(Drop)]
 pub(crate) struct Walk<'a> {
     pub(crate) alloc: Global,
@@ -39,7 +39,7 @@ pub(crate) struct Place<'t, 'a> {
     pub(crate) node: &'a Arc<Node>,
 }
 
-/// Whether the rules of the node are looked at in the store.
+/// Whether the rules of the node are checked in the store.
 pub(crate) fn is_looked_at(schema: &Schema, store: Store, number: u32) -> bool
     requires { number < length schema.now.nodes }
     ensures { result ≡ spec.is_looked_at schema.now store number }

@@ -1,4 +1,4 @@
--- What a transaction with checked reads has read is in the operations that it submits.
+-- The reads of a transaction with checked reads are in the operations that it submits.
 use Rattle.std.specs.Prelude.{◌≡◌, ◌⊎◌, ◌<◌, ◌-◌, ℕ, Bool, true, not, List, [], ◌∷◌, ◌++◌, length, Some, Ok, nat_eq, slice_get}
 use Rattle.std.specs.List.{fold, list_all}
 use Rattle.sal_types.specs.declared.value.Store.{Store}
@@ -27,13 +27,13 @@ pub record Point : Type 0 where
   pub log : List Entry
   pub client : Client
 
--- a client takes a step, or another client leaves an entry
+-- a client takes a step, or another client adds an entry
 pub data Deed : Type 0 where
   takes : Move → Deed
   waits : Entry → Deed
 
 module _ (tables : List Versions) (world : List Domain) (c : ℕ) where
-  -- client c after a step: it answered by itself, or made a shared call
+  -- client c after a step: a local one, or a shared call
   abbrev pub stepped : Point → Move → Meeting → Point
   stepped at step (local r next) = record at { client = replied r next }
   stepped at step (shared call) =
@@ -64,8 +64,8 @@ deed_spares slot (waits e) = true
 abbrev pub IsLook : ℕ → Store → List ℕ → Move → Type 0
 IsLook slot store text step = (step ≡ Read slot store text) ⊎ (step ≡ Exists slot store text)
 
--- The transaction in the slot looks at a path, and whatever the client and others do then, it is there still. When the client submits it,
--- its operations are those that it had, then the read, and what came after it.
+-- The transaction in the slot reads a path, and for any later steps of the client and others, the read is still there. When the client submits it,
+-- its operations are those before the read, the read, and those after it.
 abbrev pub ReadsAreSubmitted : Type 0
 ReadsAreSubmitted =
     (tables : List Versions) (world : List Domain) (c : ℕ) (at : Point) (slot : ℕ) (store : Store) (text : List ℕ) (path : List Step) (tx : Open) (look : Move) (deeds : List Deed)
@@ -74,8 +74,8 @@ ReadsAreSubmitted =
     → let to = after_deeds tables world c at (takes look ∷ deeds) in
     (more : List Op) × (meet tables world to.log to.client (Submit slot) ≡ shared (made.Submit tx.place (recorded Checked store path tx.ops ++ more)))
 
--- And where that submission is done, the look answered what it would answer over the trees just before the commit: after the operations
--- that the transaction had then, it sees the same rows at the path and below. So it is in each longer log.
+-- And if that submission is done, the read would have the same result over the trees just before the commit: after the operations
+-- that the transaction had then, it sees the same rows at and below the path. So it is in each longer log.
 abbrev pub PlayedReadsStand : Type 0
 PlayedReadsStand =
     (tables : List Versions) (world : List Domain) (c : ℕ) (at : Point) (slot : ℕ) (store : Store) (text : List ℕ) (path : List Step) (tx : Open) (look : Move) (deeds : List Deed)

@@ -4,8 +4,8 @@ ghost use Rattle.sal_checked_laws.specs.Submitted.{PlayedReadsStand, ReadsAreSub
 use sal_history_laws::serial;
 use sal_script::laws;
 
-/// What a transaction with checked reads looked at is in the operations that its client submits, at its place, whatever the client and
-/// others do in between. If that submission is done, the look answered what it would answer over the trees just before the commit.
+/// Each read of a transaction with checked reads is in the operations that its client submits, at its index, for any steps of the client and
+/// others in between. If that submission is done, the read would have the same result over the trees just before the commit.
 pub fn checked_reads_stand()
     ensures submitted { ReadsAreSubmitted }
     ensures stand { PlayedReadsStand }

@@ -16,9 +16,10 @@ use Rattle.sal_mount.specs.Mounts.{Made, Mounted, fault_if, is_device, is_unmoun
 use Rattle.sal_mount.proofs.Made.{mounted-one, mounted-same, was-one}
 use Rattle.sal_history.specs.declared.reply.Reply.{Reply}
 use Rattle.sal_history.specs.declared.reply.Reply.TheVariants.{Begun as BegunReply, Refused}
-use Rattle.sal_history.specs.History.{Answered, chain_refusal, domain_of, failed_by, fault_if as call_fault_if, has_open, history, is_closed, is_live, refused_or as call_refused_or}
+use Rattle.sal_history.specs.History.{Answered, chain_domains, chain_refusal, domain_of, failed_by, fault_if as call_fault_if, has_open, history, is_closed, is_live, refused_or as call_refused_or}
 use Rattle.sal_history.specs.Services.{mounted as all_mounts, mounting}
 use Rattle.sal_history.specs.World.{Domain, table_of}
+use Rattle.sal_history.proofs.Numbered.{numbered-at}
 use Rattle.sal_script.specs.Tables.{has_upgrade, table_at, versions_of}
 use Rattle.sal_hub.specs.declared.chain.Chain.{Chain}
 use Rattle.sal_hub.specs.HubHistory.{HubHistory}
@@ -134,4 +135,4 @@ chained_live world answered chain newest commit before on e =
 
 -- the domain of a chain that was opened
 pub domain-chain : (known : HubHistory) (chain : Chain) → IsChain known chain → domain_of (history known.world known.log) chain.id ≡ chain.domain
-domain-chain known chain is = ap (λ (o : Option ℕ). unwrap_or o 0) is.1
+domain-chain known chain is = ap (λ (o : Option ℕ). unwrap_or o 0) (numbered-at (chain_domains (history known.world known.log)) chain.id chain.domain is.0 is.1)

@@ -1,9 +1,9 @@
 -- A client's listeners along a log: what other entries leave of them, and what its own calls make of them.
-use Rattle.std.proofs.Common.{◌≡◌, ℕ, ◌+◌, ◌-◌, ◌<◌, ◌≤◌, Bool, true, false, List, [], ◌∷◌, ◌++◌, length, Option, None, Some, if◌then◌else◌, refl, ap, sym, ◌∙◌, subst, arith}
-use Rattle.std.specs.Prelude.{nat_eq, slice_get, unwrap_or}
+use Rattle.std.proofs.Common.{◌≡◌, ℕ, ◌+◌, ◌<◌, ◌≤◌, Bool, true, false, List, [], ◌∷◌, ◌++◌, length, Option, None, Some, if◌then◌else◌, refl, ap, sym, ◌∙◌, subst, arith}
+use Rattle.std.specs.Prelude.{nat_eq, unwrap_or}
 use Rattle.std.specs.Option.{option_map, option_map_or}
 use Rattle.std.proofs.lemmas.Bool.{eq-eqb}
-use Rattle.std.proofs.lemmas.Option.{same_Some, slice_get_within}
+use Rattle.std.proofs.lemmas.Option.{same_Some}
 use Rattle.sal_types.specs.declared.value.Store.{Store}
 use Rattle.sal_types.specs.declared.value.Step.{Step}
 use Rattle.sal_types.specs.declared.row.Row.{Row}
@@ -21,6 +21,7 @@ use Rattle.sal_history.specs.declared.reply.Reply.TheVariants.{Batch, Listener a
 use Rattle.sal_history.specs.Listeners.{Listening, brings_to, has_listener, listener_at, listeners, version}
 use Rattle.sal_history.specs.World.{Domain, opening_of, last_of}
 use Rattle.sal_history.specs.History.{Answered, batch_of, commits, history, listen_refusal, listening, refused_or, reply_to, taken, trees_at}
+use Rattle.sal_history.proofs.Numbered.{numbered-within}
 use Rattle.sal_script.proofs.Growing.{listener_later, more_commits, trees_later}
 use Rattle.sal_hub.specs.declared.listener.ListenerId.{ListenerId}
 use Rattle.sal_hub.specs.HubHistory.{HubHistory, entry_of, more}
@@ -100,7 +101,7 @@ module _ (known : HubHistory) (number domain : ℕ) (store : Store) (path : List
 
   -- its number is greater than that of each that was made before
   pub new_number : (id : ℕ) (l : Listening) → listener_at before id ≡ Some l → id < given.0.number
-  new_number id l made = let within = slice_get_within (listeners before) (id - 1) l made in omega (arith, within, parts.0)
+  new_number id l made = let within = (numbered-within (listeners before) id l made).1 in omega (arith, within, parts.0)
 
   brought : brings_to (Listen domain store path) (reply_to known.world before number (Listen domain store path)) given.0.number ≡ Some given.1.version
   brought = ap (λ r. brings_to (Listen domain store path) r given.0.number) answered ∙ ap (λ b. if b then Some given.1.version else None) (eq-eqb given.0.number given.0.number refl)

@@ -22,3 +22,4 @@ pub mod Versions
 pub mod Wanted
 pub mod Writing
 pub mod Written
+pub mod Sendable

@@ -1,9 +1,8 @@
 -- Which entries move the version of a listener: those of its own client that take from it, and no other.
-use Rattle.std.proofs.Common.{◌≡◌, ℕ, ◌+◌, ◌-◌, ◌<◌, Bool, true, false, List, [], ◌∷◌, ◌++◌, length, Option, None, Some, if◌then◌else◌, refl, ap, sym, ◌∙◌, arith}
+use Rattle.std.proofs.Common.{◌≡◌, ℕ, ◌+◌, ◌<◌, Bool, true, false, List, [], ◌∷◌, ◌++◌, length, Option, None, Some, if◌then◌else◌, refl, ap, sym, ◌∙◌, arith}
 use Rattle.std.specs.Prelude.{not, ◌&&◌, nat_eq, unwrap_or}
 use Rattle.std.specs.Option.{option_map_or}
 use Rattle.std.proofs.lemmas.Bool.{and_parts, eqb-true, ne_eqb}
-use Rattle.std.proofs.lemmas.Option.{slice_get_within}
 use Rattle.sal_types.specs.declared.value.Store.{Store}
 use Rattle.sal_types.specs.declared.value.Step.{Step}
 use Rattle.sal_rows.specs.declared.outcome.CallFault.{CallFault}
@@ -15,6 +14,7 @@ use Rattle.sal_history.specs.declared.reply.Reply.TheVariants.{Refused}
 use Rattle.sal_history.specs.Listeners.{Listening, brings_to, has_listener, is_removed, listener_at, listeners, version}
 use Rattle.sal_history.specs.World.{Domain}
 use Rattle.sal_history.specs.History.{Answered, batch_of, commits, history, listen_refusal, listening, refused_or, reply_to, taken}
+use Rattle.sal_history.proofs.Numbered.{numbered-within}
 use Rattle.sal_hub.proofs.Listened.{version-push}
 
 module _ (world : List Domain) (log : List Entry) (e : Entry) (id : ℕ) (l : Listening) (made : listener_at (history world log) id ≡ Some l) (other : e.client ≡ l.client → e.call ≡ Take id → ⊥) where
@@ -23,7 +23,7 @@ module _ (world : List Domain) (log : List Entry) (e : Entry) (id : ℕ) (l : Li
 
   -- a new listener has a number of its own
   not_new : nat_eq (length (listeners so_far) + 1) id ≡ false
-  not_new = ne_eqb (length (listeners so_far) + 1) id (λ same. absurd (omega (arith, slice_get_within (listeners so_far) (id - 1) l made, same)))
+  not_new = ne_eqb (length (listeners so_far) + 1) id (λ same. absurd (omega (arith, (numbered-within (listeners so_far) id l made).1, same)))
 
   listened : (domain : ℕ) (store : Store) (path : List Step) (o : Option CallFault) → brings_to (Listen domain store path) (refused_or o (listening world so_far domain store path)) id ≡ None
   listened domain store path None = ap (λ b. if b then Some (length (commits so_far domain)) else None) not_new

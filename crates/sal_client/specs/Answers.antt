@@ -1,4 +1,4 @@
--- What a hub answers, as the answer to a step.
+-- The hub's replies, as replies to steps.
 use Rattle.std.specs.Prelude.{◌≡◌, Result, Ok, Err}
 use Rattle.sal_rows.specs.declared.outcome.CallFault.{CallFault}
 use Rattle.sal_rows.specs.declared.outcome.CallFault.TheVariants.{HistoryFull, NoMemory}
@@ -9,12 +9,12 @@ use Rattle.sal_script.specs.declared.reply.StepReply.TheVariants.{Called}
 use Rattle.sal_client.specs.declared.wish.RunFault.{RunFault}
 use Rattle.sal_client.specs.Wishes.{IsStop}
 
--- the good answer as a reply, or the fault
+-- the result as a reply, or the fault
 abbrev pub said : {X : Type 0} → (X → Reply) → Result X CallFault → Result Reply CallFault
 said good (Ok x) = Ok (good x)
 said good (Err fault) = Err fault
 
--- the step is answered so: a fault is an answer too, unless it stops the client
+-- the step has this reply: a fault is a reply too, unless it stops the client
 abbrev pub IsAnswer : Result Reply CallFault → Result StepReply RunFault → Type 0
 IsAnswer (Ok reply) (Ok r) = r ≡ Called reply
 IsAnswer (Ok reply) (Err stop) = ⊥

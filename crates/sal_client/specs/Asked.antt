@@ -1,4 +1,4 @@
--- The RPCs that clients ask for, and the requests that they were handed.
+-- The RPCs of clients' requests, and the requests that they took.
 use Rattle.std.specs.Prelude.{◌≡◌, ℕ, List, Option, Some, None, Result, Ok, Err}
 use Rattle.serde_json.specs.Data.{Data}
 use Rattle.serde_json.specs.View.{view}
@@ -17,7 +17,7 @@ use Rattle.sal_client.specs.declared.rpcs.Ask.{Ask}
 use Rattle.sal_client.specs.declared.rpcs.Invocation.{Invocation as Handed}
 use Rattle.sal_client.specs.Faults.{Refuses}
 
--- the RPC of a name and the context of a text, if it is given, or why they are none
+-- the RPC of a name and the context of a text, if it is given, or why there is none
 abbrev pub service_of : SchemaTable → List ℕ → Option (List ℕ) → OrRefusal (ℕ × Option (List Step))
 service_of table name text = if_known (rpc_called table name) >>= (λ rpc. context_of table text >>= (λ context. Ok (rpc, context)))
 
@@ -42,7 +42,7 @@ abbrev pub IsAnswerTo : SchemaTable → Handed → Data → Result Answer StepFa
 IsAnswerTo table request value (Ok a) = (a.request ≡ request) × (view a.value.value ≡ value) × (rows_of table (output_of table request.rpc) value ≡ Ok a.output)
 IsAnswerTo table request value (Err fault) = Refuses fault (rows_of table (output_of table request.rpc) value)
 
--- a request that the client was handed, as the definitions have it
+-- a request that the client took, in the definitions' form
 abbrev pub invocation_of : Handed → Invocation
 invocation_of request = record { id = request.id; rpc = request.rpc }
 

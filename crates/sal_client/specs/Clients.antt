@@ -1,4 +1,4 @@
--- A client, as the definitions have it, and what it keeps of the log.
+-- A client in the definitions' form, and its invariants over the log.
 use Rattle.std.specs.Prelude.{◌≡◌, ◌⊎◌, ◌<◌, ℕ, Bool, true, false, List, length, Option, None, Some}
 use Rattle.std.specs.Option.{option_map, option_map_or}
 use Rattle.sal_rows.specs.declared.outcome.Mode.{Mode}
@@ -25,7 +25,7 @@ use Rattle.sal_client.specs.Asked.{invocation_of}
 use Rattle.sal_client.specs.Followers.{Follows, IsOwnListener, listener_of}
 use Rattle.sal_client.specs.Slots.{held}
 
--- a transaction, as the definitions have it
+-- a transaction in the definitions' form
 abbrev pub open_of : Tx → Open
 open_of tx = record { place = (begun_of tx).place; domain = (begun_of tx).domain; version = (begun_of tx).version; mode = mode_of tx; ops = ops_of tx }
 
@@ -40,7 +40,7 @@ number_of receipt = receipt.number
 abbrev pub given : ClientState → ℕ → Option ℕ
 given c k = option_map number_of (held c.receipts k)
 
--- a chain, as the definitions have it
+-- a chain in the definitions' form
 abbrev pub chain_of : Chain → Opened
 chain_of chain = record { id = chain.id; domain = chain.domain }
 
@@ -59,7 +59,7 @@ request_of id = id.number
 abbrev pub invoked_in : ClientState → ℕ → Option ℕ
 invoked_in c k = option_map request_of (held c.invoked k)
 
--- those that it was handed, by slot
+-- those that it took, by slot
 abbrev pub handed_in : ClientState → ℕ → Option Invocation
 handed_in c k = option_map invocation_of (held c.handed k)
 
@@ -67,7 +67,7 @@ abbrev pub client_of : ClientState → Client
 client_of c =
     record { transactions = opened c; receipts = given c; chains = chains_in c; listeners = listeners_in c; invoked = invoked_in c; handed = handed_in c; replies = c.replies.items }
 
--- what a slot is good for
+-- what a slot can be used for
 abbrev pub standing_in : Mode → Standing
 standing_in Ro = ReadOnly
 standing_in Wo = Writable
@@ -86,7 +86,7 @@ version_of tx = option_map_or (λ (o : Open). o.version) tx 0
 abbrev pub domain_of : Option Open → ℕ
 domain_of tx = option_map_or (λ (o : Open). o.domain) tx 0
 
--- the controller's own domain, or one of so many
+-- the controller's own domain, or one of `count`
 abbrev pub IsWithin : ℕ → ℕ → Type 0
 IsWithin count domain = (domain ≡ 0) ⊎ (domain < count)
 
@@ -95,14 +95,14 @@ pub record IsOwn (known : HubHistory) (tx : Tx) : Type 0 where
   pub token : IsToken known tx
   pub within : IsWithin (length known.world) (begun_of tx).domain
 
--- What the local steps need, and each longer log keeps: each transaction is one that the log began, and the rows of each
--- listener are those that were committed there.
+-- The conditions of the local steps, which each longer log keeps: each transaction is one that the log began, and each
+-- listener's mirror has the rows that were committed there.
 pub record IsSteady (known : HubHistory) (c : ClientState) : Type 0 where
   pub transactions : (k : ℕ) (tx : Tx) → held c.transactions k ≡ Some tx → IsOwn known tx
   pub followers : (k : ℕ) (f : Follower) → held c.listeners k ≡ Some f → Follows known f
 
--- And what the shared steps need: each receipt is one that the log gave, each chain one that it opened, each request one that
--- was made, and each listener one that it made for this client, at the version that was taken last; no listener is in two slots.
+-- And those of the shared steps: each receipt is one that the log gave, each chain one that it opened, each request one that
+-- was made, and each listener one that it made for this client, at the version of its last batch; no listener is in two slots.
 pub record IsSound (known : HubHistory) (c : ClientState) : Type 0 where
   pub steady : IsSteady known c
   pub receipts : (k : ℕ) (r : Receipt) → held c.receipts k ≡ Some r → IsGiven known r
@@ -111,12 +111,12 @@ pub record IsSound (known : HubHistory) (c : ClientState) : Type 0 where
   pub listeners : (k : ℕ) (f : Follower) → held c.listeners k ≡ Some f → IsOwnListener known c.number f
   pub apart : (j k : ℕ) (f g : Follower) → held c.listeners j ≡ Some f → held c.listeners k ≡ Some g → f.id.number ≡ g.id.number → j ≡ k
 
--- it stays steady, and sound, for each log that it was so for
+-- it stays steady, and sound, for each log for which it was
 pub record StaysSound (old new : ClientState) : Type 0 where
   pub steady : (known : HubHistory) → IsSteady known old → IsSteady known new
   pub sound : (known : HubHistory) → IsSound known old → IsSound known new
 
--- over each log that the client is steady for, where the domains' schemas have these versions
+-- over each log for which the client is steady, if the domains' schemas have these versions
 abbrev pub Everywhere : List Versions → ClientState → (HubHistory → Type 0) → Type 0
 Everywhere tables c P = (known : HubHistory) → IsSteady known c → tables ≡ versions_of known.world → P known
 
@@ -134,7 +134,7 @@ pub record Same (old new : ClientState) : Type 0 where
   pub number : new.number ≡ old.number
   pub replies : new.replies.items ≡ old.replies.items
 
--- a step that a client answers by its own transactions, or by the rows of a listener
+-- a local step: it uses only the client's transactions, or a listener's mirror
 abbrev pub is_local : Move → Bool
 is_local (Put slot store path value) = true
 is_local (Merge slot store path value) = true
@@ -160,7 +160,7 @@ is_service (Unmount domain) = true
 is_service (MountAt path) = true
 is_service step = false
 
--- what a shared call leaves
+-- the effect of a shared call
 pub record Calls (tables : List Versions) (r : StepReply) (c : ℕ) (known : HubHistory) (old : Client) (step : Move) (known' : HubHistory) (new : Client) (call : Call) : Type 0 where
   pub met : meet tables known.world known.log old step ≡ shared call
   pub entry : known' ≡ more known (entry_of known c call)

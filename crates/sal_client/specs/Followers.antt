@@ -1,4 +1,4 @@
--- The listeners of a client, and the rows that follow them.
+-- The listeners of a client, and their mirrors.
 use Rattle.std.specs.Prelude.{◌≡◌, ℕ, ◌<◌, ◌≤◌, length, Option}
 use Rattle.std.specs.Option.{option_map}
 use Rattle.sal_types.specs.Tree.{under, IsAscending}
@@ -11,11 +11,11 @@ use Rattle.sal_hub.specs.HubHistory.{HubHistory}
 use Rattle.sal_hub.specs.Listeners.{IsMade}
 use Rattle.sal_client.specs.declared.follower.Follower.{Follower}
 
--- a listener, as the definitions have it
+-- a listener in the definitions' form
 abbrev pub listener_of : Follower → Listener
 listener_of f = record { id = f.id.number; domain = f.id.domain; store = f.store; path = f.path; version = f.mirror.version }
 
--- the rows are those that were committed at the listener's path and below it, at the version that was taken last
+-- the rows are those that were committed at and below the listener's path, at the version of its last batch
 pub record Follows (known : HubHistory) (f : Follower) : Type 0 where
   pub reached : f.mirror.version ≤ length (commits (history known.world known.log) f.id.domain)
   pub rows : f.mirror.rows ≡ under (trees_at known.world (history known.world known.log) f.id.domain f.store f.mirror.version) f.path

@@ -1,4 +1,4 @@
--- What a shared call leaves of the hub's log and of the client that made it.
+-- The hub's log and the client after a shared call.
 use Rattle.std.specs.Prelude.{Result, Ok, Err}
 use Rattle.sal_hub.specs.HubHistory.{HubHistory}
 use Rattle.sal_script.specs.declared.reply.StepReply.{StepReply}
@@ -8,7 +8,7 @@ use Rattle.sal_client.specs.declared.wish.Wish.{Wish}
 use Rattle.sal_client.specs.Clients.{IsSound, Same, client_of}
 use Rattle.sal_client.specs.Wishes.{GrowsBy, MakesFor, Stops}
 
--- the call of the wish was made: the log has its entry, the client what the answer gives; the reply is not yet among the replies
+-- the call of the wish was made: the log has its entry, the client its results; the reply is not yet among the replies
 pub record IsMadeBy (wish : Wish) (known : HubHistory) (old : ClientState) (known' : HubHistory) (new : ClientState) (r : StepReply) : Type 0 where
   pub answers : MakesFor wish old.number known (client_of old) known' (client_of new) r
   pub grows : GrowsBy old.number known known'

@@ -1,4 +1,4 @@
--- Looks into what transactions see.
+-- Reads in transactions.
 use Rattle.std.specs.Prelude.{◌≡◌, ◌⊎◌, ℕ, List, Some}
 use Rattle.sal_types.specs.declared.value.Store.{Store}
 use Rattle.sal_types.specs.declared.value.Step.{Step}
@@ -20,34 +20,34 @@ use Rattle.sal_client.specs.Clients.{client_of, open_of, opened}
 use Rattle.sal_client.specs.Meeting.{Answers}
 use Rattle.sal_client.specs.Slots.{held}
 
--- the step that looks so
+-- the step of this read
 abbrev pub look_move : ℕ → Store → List ℕ → Look → Move
 look_move slot store text Read = asked.Read slot store text
 look_move slot store text Exists = asked.Exists slot store text
 
--- what a look answers of the rows that a transaction sees
+-- the reply to a read, from the rows that a transaction sees
 abbrev pub shown_by : Look → Open → List Step → List Row → StepReply
 shown_by Read = rows_read
 shown_by Exists = found
 
--- a transaction after a look at a path
+-- a transaction after a read of a path
 abbrev pub after_look : Store → List Step → Tx → Tx
 after_look store path (begun.Read tx) = begun.Read tx
 after_look store path (begun.Write tx) = begun.Write (after_read store path tx)
 
--- a transaction's answer to a look at a path
+-- a transaction's reply to a read of a path
 abbrev pub IsSeen : Tx → Store → List Step → Look → StepReply → Type 0
 IsSeen tx store path look r = look_reply (mode_of tx) (begun_of tx).domain (shown_by look (open_of tx) path (apply_ops (rows_in (base_of tx) store) store (ops_of tx))) ≡ r
 
--- the transaction after a look: as it was, if the text is no path
+-- the transaction after a read: unchanged, if the text is not a path
 abbrev pub HasLooked : Store → Tx → Tx → Type 0
 HasLooked store old new = (new ≡ old) ⊎ ((path : List Step) × (new ≡ after_look store path old))
 
--- the client with this transaction in the slot, as the definitions have it
+-- the client with this transaction in the slot, in the definitions' form
 abbrev pub with_open : ℕ → Tx → ClientState → Client
 with_open slot tx c = record (client_of c) { transactions = set_slot slot (Some (open_of tx)) (opened c) }
 
--- A look by the transaction in the slot was answered, which leaves a new one there.
+-- A read in the slot's transaction was answered, and a new transaction is in the slot.
 pub record IsLooked (tables : List Versions) (slot : ℕ) (store : Store) (text : List ℕ) (look : Look) (old : Tx) (r : StepReply) (new : Tx) : Type 0 where
   pub shown : (c after : ClientState) → held c.transactions slot ≡ Some old → client_of after ≡ with_open slot new c → Answers tables c (look_move slot store text look) r after
   pub looked : HasLooked store old new

@@ -1,4 +1,4 @@
--- What a step leaves of the client that meets it.
+-- The client after a step.
 use Rattle.std.specs.Prelude.{◌≡◌, ℕ, List, Option, Some}
 use Rattle.sal_rows.specs.declared.op.Op.{Op}
 use Rattle.sal_script.specs.Moves.{Move}
@@ -13,14 +13,14 @@ use Rattle.sal_client.specs.declared.wish.Wish.{Wish}
 use Rattle.sal_client.specs.Clients.{Everywhere, HasSchema, Same, StaysSound, client_of, opened}
 use Rattle.sal_client.specs.Wishes.{Meets}
 
--- it was answered or refused, or asks for this call
+-- it was answered or refused, or has this call
 pub record IsMet (tables : List Versions) (old : ClientState) (step : Move) (wish : Option Wish) (new : ClientState) : Type 0 where
   pub meets : Meets tables old step wish new
   pub sound : StaysSound old new
   pub schema : HasSchema tables new
   pub number : new.number ≡ old.number
 
--- the reply to a local step, over each log that the client is steady for
+-- the reply to a local step, over each log for which the client is steady
 abbrev pub Answers : List Versions → ClientState → Move → StepReply → ClientState → Type 0
 Answers tables old step r new = Everywhere tables old (λ known. meet tables known.world known.log (client_of old) step ≡ local r (client_of new))
 
@@ -38,7 +38,7 @@ pub record IsWritten (tables : List Versions) (old : ClientState) (slot : ℕ) (
   pub schema : HasSchema tables new
   pub same : Same old new
 
--- the client has one reply more
+-- the client has one more reply
 pub record IsReplied (r : StepReply) (old new : ClientState) : Type 0 where
   pub client : client_of new ≡ replied r (client_of old)
   pub sound : StaysSound old new

@@ -1,4 +1,4 @@
--- What a client makes of the texts and the values of a write, or why it makes nothing.
+-- The operation of a write's texts and values, or why there is none.
 use Rattle.std.specs.Prelude.{ℕ, List, Result, Ok, Err}
 use Rattle.serde_json.specs.View.{view}
 use Rattle.sal_types.specs.declared.value.Store.{Store}
@@ -16,19 +16,19 @@ use Rattle.sal_script.specs.Play.{DataAct, putting, merging, deleting, act_of, o
 use Rattle.sal_client.specs.declared.operations.JsonAct.{JsonAct}
 use Rattle.sal_client.specs.declared.operations.JsonAct.TheVariants.{Put, Merge, Delete}
 
--- what a write does, with the JSON data of its value
+-- the act of a write, with the JSON data of its value
 abbrev pub data_act_of : JsonAct → DataAct
 data_act_of (Put value) = putting (view value.now)
 data_act_of (Merge value) = merging (view value.now)
 data_act_of Delete = deleting
 
--- the step that writes so
+-- the step of this write
 abbrev pub write_move : ℕ → Store → List ℕ → DataAct → Move
 write_move slot store text (putting value) = asked.Put slot store text value
 write_move slot store text (merging value) = asked.Merge slot store text value
 write_move slot store text deleting = asked.Delete slot store text
 
--- what was read of a value for a domain
+-- the data that was read of a value for a domain
 abbrev pub good_data : {X : Type 0} → ℕ → Result X DataFault → Result X StepRefusal
 good_data domain (Ok x) = Ok x
 good_data domain (Err fault) = Err (BadData domain fault)

@@ -1,4 +1,4 @@
--- A client's run, as the definitions have it.
+-- A client's run in the definitions' form.
 use Rattle.std.specs.List.{list_all}
 use Rattle.std.specs.Prelude.{IsTrue, ◌≡◌, ℕ, ◌+◌, ◌≤◌, ◌<◌, Bool, true, false, List, [], ◌∷◌, length, drop, map, Option, None, Some, Result, Ok, Err, ⊤, slice_index_or}
 use Rattle.sal_history.specs.World.{Domain}
@@ -19,11 +19,11 @@ use Rattle.sal_client.specs.declared.wish.Wish.{Wish}
 use Rattle.sal_client.specs.Clients.{client_of, Everywhere, IsSound}
 use Rattle.sal_client.specs.Wishes.{CanMake, GrowsBy, ReadBy, move_by}
 
--- the moves that are still to come
+-- the remaining moves
 abbrev pub moves_from : ℕ → List ScriptStep → List Move
 moves_from at steps = moves_of (drop at steps)
 
--- the client with the moves that are still to come
+-- the client with its remaining moves
 abbrev pub run_of : List ScriptStep → CodeRun → Run
 run_of steps r = record { client = client_of r.client; steps = moves_from r.at steps }
 
@@ -42,14 +42,14 @@ pub record IsRun (known : HubHistory) (steps : List ScriptStep) (r : CodeRun) : 
 abbrev pub asking : Wish → List ScriptStep → CodeRun → Run
 asking wish steps r = record { client = client_of r.client; steps = move_by wish ∷ moves_from r.at steps }
 
--- The client answered its local steps: over each log that it was sound for, it reached its end, or to this call.
+-- The client did its local steps: over each log for which it was sound, it reached its end, or this call.
 abbrev pub Comes : List Versions → List ScriptStep → CodeRun → Option Wish → CodeRun → Type 0
 Comes tables steps old None new = Everywhere tables old.client (λ known. arrive tables known.world known.log (client_of old.client) (moves_from old.at steps) ≡ ended (client_of new.client))
 Comes tables steps old (Some wish) new =
     Everywhere tables old.client (λ known. arrive tables known.world known.log (client_of old.client) (moves_from old.at steps) ≡ arrive tables known.world known.log (asking wish steps new).client (asking wish steps new).steps)
     × CanMake wish new.client × ReadBy tables wish × (old.at < new.at)
 
--- client c made the call that it was ready to make, whatever the steps after it
+-- client c made the call that it was ready to make, for any later steps
 abbrev pub MakesNext : List Versions → ℕ → HubHistory → Wish → Client → HubHistory → Client → Type 0
 MakesNext tables c known wish old known' new =
     ((steps : List Move) → go tables known.world known.log c (record { client = old; steps = move_by wish ∷ steps }) ≡ Some (record { log = known'.log; run = record { client = new; steps = steps } }))
@@ -98,13 +98,13 @@ abbrev pub Ends : List Versions → Bool → List (List ScriptStep) → HubHisto
 Ends tables true ps known rs known' rs' = (replies_of tables known.world known.log (runs_of ps rs) ≡ Some (map replies_in rs')) × (known' ≡ known)
 Ends tables false ps known rs known' rs' = replies_of tables known.world known.log (runs_of ps rs) ≡ None
 
--- the result of a script over a world, or where its order fails; nothing is said of want of memory
+-- the result of a script over a world, or where its order fails; `NoMemory` has no condition
 abbrev pub PlaysAs : List Domain → Result CodePlayed PlayFault → Result Played ℕ → Type 0
 PlaysAs world (Ok p) played = (played ≡ Ok (record { log = p.hub.log; replies = p.replies })) × (p.hub.world ≡ world)
 PlaysAs world (Err (BadOrder index)) played = played ≡ Err index
 PlaysAs world (Err NoMemory) played = Unit {0}
 
--- the clients at their beginning, over the hub
+-- the clients before their first steps, over the hub
 abbrev pub Begins : HubHistory → List (List ScriptStep) → Result Simulation PlayFault → Type 0
 Begins known ps (Ok s) = (s.hub ≡ known) × AreRuns s.hub ps s.runs.items × (stand_of ps s.hub.log s.runs.items ≡ start (clients_of ps))
 Begins known ps (Err why) = why ≡ NoMemory

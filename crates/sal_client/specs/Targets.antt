@@ -1,4 +1,4 @@
--- To what a client wants to listen.
+-- The target of a listen.
 use Rattle.std.specs.Prelude.{◌≡◌, ℕ, true, if◌then◌else◌, List, Result, Ok, Err}
 use Rattle.sal_types.specs.declared.value.Store.{Store}
 use Rattle.sal_types.specs.declared.value.Step.{Step}
@@ -11,7 +11,7 @@ use Rattle.sal_client.specs.declared.fault.StepFault.{StepFault}
 use Rattle.sal_client.specs.declared.wish.Target.{Target}
 use Rattle.sal_client.specs.Faults.{Refuses}
 
--- the path that the text denotes in the domain, or why it is none
+-- the path that the text denotes in the domain, or why it is not one
 abbrev pub path_in : List Versions → ℕ → List ℕ → Result (List Step) StepRefusal
 path_in tables domain text = if has_domain tables domain then path_or (read_path (last_in tables domain) text) else Err NoDevice
 

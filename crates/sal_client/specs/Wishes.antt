@@ -1,4 +1,4 @@
--- The shared calls that clients are ready to make, and what comes of them.
+-- The shared calls that clients are ready to make, and their effects.
 use Rattle.std.specs.Prelude.{◌≡◌, ◌⊎◌, ◌≤◌, ℕ, IsSome, List, length, Option, None, Some, Result, Ok, Err, true}
 use Rattle.serde_json.specs.View.{view}
 use Rattle.sal_rows.specs.declared.outcome.CallFault.{CallFault}
@@ -61,7 +61,7 @@ CanRpc (rpcs.Answer slot answer) c = held c.handed slot ≡ Some answer.request
 CanRpc (rpcs.Collect slot) c = IsSome (held c.invoked slot)
 CanRpc wish c = Unit {0}
 
--- what was read for the call was read by this schema
+-- the arguments of the call were read by this schema
 abbrev pub RpcReadBy : SchemaTable → RpcWish → Type 0
 RpcReadBy table (rpcs.Provide s) = services.provide table s.name.value s.text.value ≡ Ok (made.Provide s.rpc s.context)
 RpcReadBy table (rpcs.Withdraw s) = services.withdraw table s.name.value s.text.value ≡ Ok (made.Withdraw s.rpc s.context)
@@ -81,7 +81,7 @@ MountReadBy table (mounts.MountAt text path) = services.mount_at table text.valu
 
 -- ---- calls
 
--- the step that asks for the call
+-- the step of the call
 abbrev pub move_by : Wish → Move
 move_by (Begin slot domain mode) = asked.Begin slot domain mode
 move_by (Submit slot) = asked.Submit slot
@@ -113,7 +113,7 @@ CanMake (Unlisten slot) c = IsSome (held c.listeners slot)
 CanMake (Rpc wish) c = CanRpc wish c
 CanMake wish c = Unit {0}
 
--- what was read for the call was read by these versions: for a listen, over a domain that the script has, by the last one of the domain,
+-- the arguments of the call were read by these versions: for a listen, over a domain that the script has, by the last one of the domain,
 -- and else by that of domain 0; an upgrade leads to one of them
 abbrev pub ReadBy : List Versions → Wish → Type 0
 ReadBy tables (Listen slot target) = (read_path (last_in tables target.domain) target.text.value ≡ Ok target.path) × (has_domain tables target.domain ≡ true)
@@ -123,27 +123,27 @@ ReadBy tables (Mount wish) = MountReadBy (last_in tables 0) wish
 ReadBy tables (Upgrade version) = has_upgrade tables version ≡ true
 ReadBy tables wish = Unit {0}
 
--- the wish, where the slot that it needs is filled
+-- the wish, if the slot that it needs is filled
 abbrev pub wish_if : {X : Type 0} → Wish → Option X → Result Wish StepFault
 wish_if wish None = Err (Refused EmptySlot)
 wish_if wish (Some x) = Ok wish
 
--- the wish for what was read
+-- the wish with the arguments that were read
 abbrev pub wished : {X : Type 0} → (X → Wish) → Result X StepFault → Result Wish StepFault
 wished wish (Ok x) = Ok (wish x)
 wished wish (Err why) = Err why
 
--- the step is refused over whatever log; nothing is said of want of memory
+-- the step is refused over each log; `NoMemory` has no condition
 abbrev pub IsRefused : List Versions → ClientState → Move → StepFault → Type 0
 IsRefused tables c step (Refused refusal) = (known : HubHistory) → meet tables known.world known.log (client_of c) step ≡ refused refusal (client_of c)
 IsRefused tables c step Wanting = Unit {0}
 
--- the step asks for this call, or is refused
+-- the step has this call, or is refused
 abbrev pub Wants : List Versions → ClientState → Move → Result Wish StepFault → Type 0
 Wants tables c step (Ok wish) = (step ≡ move_by wish) × CanMake wish c × ReadBy tables wish
 Wants tables c step (Err why) = IsRefused tables c step why
 
--- The client answered the step by itself, and the reply is among its replies; or the step asks for a call, and nothing has
+-- The step was local, and the reply is among the client's replies; or the step has a call, and nothing has
 -- changed.
 abbrev pub Meets : List Versions → ClientState → Move → Option Wish → ClientState → Type 0
 Meets tables old step None new = Everywhere tables old (λ known. (r : StepReply) × (between : Client) × (meet tables known.world known.log (client_of old) step ≡ local r between) × (client_of new ≡ replied r between))
@@ -153,15 +153,15 @@ Meets tables old step (Some wish) new = (step ≡ move_by wish) × CanMake wish 
 abbrev pub Makes : List Versions → StepReply → ℕ → HubHistory → Client → Move → HubHistory → Client → Type 0
 Makes tables r c known old step known' new = (call : Call) × Calls tables r c known old step known' new call
 
--- it was that of the wish, by whichever schemas this was read
+-- it was that of the wish, for any schemas by which this was read
 abbrev pub MakesFor : Wish → ℕ → HubHistory → Client → HubHistory → Client → StepReply → Type 0
 MakesFor wish c known old known' new r = (tables : List Versions) → ReadBy tables wish → Makes tables r c known old (move_by wish) known' new
 
--- one entry more, of client c
+-- one more entry, of client c
 abbrev pub GrowsBy : ℕ → HubHistory → HubHistory → Type 0
 GrowsBy c known known' = (e : Entry) × (e.client ≡ c) × (known' ≡ more known e)
 
--- at most one entry more, of client c
+-- at most one more entry, of client c
 abbrev pub GrowsAtMost : ℕ → HubHistory → HubHistory → Type 0
 GrowsAtMost c known known' = (known' ≡ known) ⊎ GrowsBy c known known'
 
@@ -170,7 +170,7 @@ abbrev pub IsStop : CallFault → RunFault → Type 0
 IsStop why HistoryFull = why ≡ fault.HistoryFull
 IsStop why NoMemory = why ≡ fault.NoMemory
 
--- A client stopped at a call: the log is full and as it was, or memory ran out, and then the log may have the call's entry.
+-- A client stopped at a call: the log is full and unchanged, or memory ran out, and then the log may have the call's entry.
 abbrev pub Stops : ℕ → HubHistory → HubHistory → RunFault → Type 0
 Stops c known known' HistoryFull = (limit ≤ length known.log) × (known' ≡ known)
 Stops c known known' NoMemory = GrowsAtMost c known known'

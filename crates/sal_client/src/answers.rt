@@ -1,4 +1,4 @@
-//! What a hub answers to the calls on services, as the answers to steps.
+//! The hub's replies to calls on services, as replies to steps.
 ghost use Rattle.std.specs.Prelude.{◌≡◌};
 ghost use Rattle.sal_hub.specs.Routed.{collect_reply};
 ghost use Rattle.sal_client.specs.Answers.{said, IsAnswer};
@@ -10,7 +10,7 @@ use sal_note::NoteList;
 use sal_rows::{CallFault, Outcome, Rows};
 use sal_script::StepReply;
 
-/// The answer to a call, unless it stops the client.
+/// The reply to a call, unless it stops the client.
 pub(crate) fn answer_to(made: Result<Reply, CallFault>) -> Result<StepReply, RunFault>
     ensures { IsAnswer made result }
 {
@@ -20,7 +20,7 @@ pub(crate) fn answer_to(made: Result<Reply, CallFault>) -> Result<StepReply, Run
     }
 }
 
-/// The answer to a call without a result.
+/// The reply to a call without another result.
 pub(crate) fn accepted(made: Result<(), CallFault>) -> Result<Reply, CallFault>
     ensures { result ≡ said (λ _. Reply.Accepted) made }
 {
@@ -51,7 +51,7 @@ pub(crate) fn output(rpc: u32, made: Result<Option<Rows>, CallFault>) -> Result<
     }
 }
 
-/// How many subscribers have got a notification.
+/// The number of subscribers that got a notification.
 pub(crate) fn offered(made: Result<u32, CallFault>) -> Result<Reply, CallFault>
     ensures { result ≡ said (λ count. Reply.Offered count) made }
 {
@@ -71,7 +71,7 @@ pub(crate) fn notes(made: Result<NoteList, CallFault>) -> Result<Reply, CallFaul
     }
 }
 
-/// The domain that is mounted at a path, if one is.
+/// The domain that is mounted at a path, if any.
 pub(crate) fn mounted(made: Result<Option<u32>, CallFault>) -> Result<Reply, CallFault>
     ensures { result ≡ said (λ mount. Reply.MountAt mount) made }
 {

@@ -1,4 +1,4 @@
-//! From a step to the shared call that it asks for, and from that call to its answer.
+//! From a step to its shared call, and from that call to its reply.
 ghost use Rattle.std.specs.Prelude.{◌≡◌, false, true};
 ghost use Rattle.sal_script.specs.Moves.{Cancel, Submit, move_of};
 ghost use Rattle.sal_client.specs.Clients.{is_local, is_service};
@@ -19,7 +19,7 @@ use sal_hub::Hub;
 use sal_script::{ScriptStep, StepRefusal, StepReply};
 use std::alloc::Global;
 
-// The wish, where the slot holds what its call takes.
+// The wish, if the slot has what its call takes.
 fn if_filled<T>(slots: &Slots<T>, slot: u8, wish: Wish) -> Result<Wish, StepFault>
     ensures { result ≡ wish_if wish (held slots.now slot) }
 {
@@ -35,7 +35,7 @@ impl ClientState {
     ghost use Rattle.sal_client.specs.Wishes.{CanMake, ReadBy, Wants};
     ghost use Rattle.sal_script.specs.Tables.{versions_of};
 
-    /// The shared call that the step asks for, or why it is refused. It takes no turn at a hub.
+    /// The shared call of the step, or why it is refused. It takes no turn at a hub.
     pub(crate) fn wish_of(
         &self,
         alloc: Global,
@@ -96,7 +96,7 @@ impl ClientState {
         }
     }
 
-    // The same of the steps for services.
+    // The same for the steps of services.
     fn service_wish(
         &self,
         alloc: Global,
@@ -142,7 +142,7 @@ impl ClientState {
         }
     }
 
-    // To submit the slot's transaction, where it may write.
+    // To submit the slot's transaction, if it may write.
     fn submit_wish(&self, readers: &Readers, slot: u8) -> Result<Wish, StepFault>
         ensures { Wants readers.now self.now (Submit slot) result }
     {
@@ -163,8 +163,8 @@ impl ClientState {
         }
     }
 
-    /// Makes the shared call on the hub, and keeps what its answer leaves in the slots. The reply is not yet among the replies.
-    /// After want of memory the client is not to be used again.
+    /// Makes the shared call on the hub, and keeps the results in the slots. The reply is not yet among the replies.
+    /// If memory runs out, the client must not be used again.
     pub(crate) fn call(
         &mut self,
         alloc: Global,

@@ -17,14 +17,14 @@ use sal_script::StepReply;
 use sal_tx::Tx;
 use std::alloc::Global;
 
-/// The answer to a call.
+/// The reply to a call.
 pub(crate) fn called(reply: Reply) -> StepReply
     ensures { result ≡ StepReply.Called reply }
 {
     StepReply::Called { reply }
 }
 
-/// The answer to a call that was refused, unless that stops the client.
+/// The reply to a refused call, unless that stops the client.
 pub(crate) fn refused_call(fault: CallFault) -> Result<StepReply, RunFault>
     ensures { IsAnswer (Err fault) result }
 {
@@ -35,7 +35,7 @@ pub(crate) fn refused_call(fault: CallFault) -> Result<StepReply, RunFault>
     }
 }
 
-/// The answer to a begin that is good.
+/// The reply to a done begin.
 pub(crate) fn begun(tx: &Tx) -> Reply
     ensures { result ≡ Reply.Begun (begun_of tx.now).base_commit (begun_of tx.now).on }
 {
@@ -106,7 +106,7 @@ impl ClientState {
         }
     }
 
-    /// Gives up the slot's transaction.
+    /// Cancels the slot's transaction.
     pub(crate) fn cancel(
         &mut self,
         alloc: Global,

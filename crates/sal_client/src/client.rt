@@ -1,4 +1,4 @@
-//! A client: its slots, and how it answers its steps.
+//! A client: its slots, and its local steps.
 ghost use Rattle.std.specs.Prelude.{◌≡◌, List, None, IfOk, OnOk, IsTrue, true};
 ghost use Rattle.sal_hub.specs.Tokens.{mode_of};
 ghost use Rattle.sal_client.specs.Clients.{is_local, standing_in};
@@ -21,7 +21,7 @@ use sal_tx::Tx;
 use sal_types::NoMemory;
 use std::alloc::Global;
 
-/// What a transaction slot is good for.
+/// What a transaction slot can be used for.
 #[derive(Clone, Copy, Debug, PartialEq, Eq)]
 pub enum Standing {
     Empty,
@@ -39,7 +39,7 @@ pub struct ClientState {
     pub listeners: Slots<Follower>,
     /// The requests that it made.
     pub invoked: Slots<CallId>,
-    /// The requests that it was handed.
+    /// The requests that it took.
     pub handed: Slots<Invocation>,
     pub replies: Vec<StepReply>,
 }
@@ -50,7 +50,7 @@ pub(crate) fn refused(refusal: StepRefusal) -> StepReply
     StepReply::Refused { refusal }
 }
 
-// Whether the client answers the step by its own transactions, or by the rows of a listener.
+// Whether the step is local: it uses only the client's transactions, or a listener's mirror.
 fn is_local(step: &ScriptStep) -> bool
     ensures { result ≡ is_local (move_of step.now) }
 {
@@ -65,7 +65,7 @@ fn is_local(step: &ScriptStep) -> bool
     )
 }
 
-// What a transaction is good for.
+// What a transaction can be used for.
 fn standing_of(tx: &Tx) -> Standing
     ensures { result ≡ standing_in (mode_of tx.now) }
 {
@@ -103,7 +103,7 @@ impl ClientState {
         }
     }
 
-    /// What the transaction slot is good for.
+    /// What the transaction slot can be used for.
     pub(crate) fn standing(&self, slot: u8) -> Standing
         ensures { result ≡ spec.standing_of (opened self.now slot) }
     {
@@ -113,7 +113,7 @@ impl ClientState {
         }
     }
 
-    /// Answers the step by what the client has or refuses it; or else says which shared call it asks for, and
+    /// Answers a local step, or refuses it; or returns its shared call, and
     /// changes nothing.
     pub(crate) fn meet(
         &mut self,
@@ -154,7 +154,7 @@ impl ClientState {
         self.keep(reply)
     }
 
-    // Answers a write or a look in one of the client's transactions, or a look at the rows of a listener.
+    // Answers a write or a read in one of the client's transactions, or a look at a listener's mirror.
     fn answer(
         &mut self,
         alloc: Global,

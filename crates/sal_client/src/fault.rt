@@ -1,11 +1,11 @@
-//! Why a step goes no further.
+//! Why a client stops at a step.
 ghost use Rattle.sal_client.specs.Faults.{IsRefusal};
 
 use crate::client::refused;
 use sal_script::{StepRefusal, StepReply};
 use sal_types::NoMemory;
 
-/// Why a client goes no further with a step: it refuses it, or memory ran out.
+/// Why a client stops at a step: it refuses it, or memory ran out.
 #[derive(Drop)]
 pub(crate) enum StepFault {
     Refused(StepRefusal),

@@ -1,4 +1,4 @@
-//! A client's listener with the rows that follow it.
+//! A client's listener with its mirror.
 ghost use Rattle.std.specs.Prelude.{◌≡◌, IfOk};
 ghost use Rattle.sal_client.specs.Followers.{Advances};
 
@@ -9,7 +9,7 @@ use sal_script::StepReply;
 use sal_types::{Duplicate, NoMemory, Path, Store};
 use std::alloc::Global;
 
-/// A listener of a client, and a copy of the rows at its path, which follows by the batches that the client takes.
+/// A listener of a client, and its mirror of the rows at the path, updated by the batches that the client takes.
 #[derive(Drop)]
 pub struct Follower {
     pub id: ListenerId,
@@ -19,7 +19,7 @@ pub struct Follower {
 }
 
 impl Follower {
-    /// The listener, with a copy of what it was opened with.
+    /// The listener, with a mirror of its snapshot.
     pub(crate) fn of(
         id: ListenerId,
         store: Store,
@@ -38,7 +38,7 @@ impl Follower {
         })
     }
 
-    /// Advances to the end of the batch, which begins at the version of the copy.
+    /// Advances to the end of the batch, which begins at the version of the mirror.
     pub(crate) fn advance(mut self, alloc: Global, batch: &Batch) -> Result<Self, NoMemory>
         requires { self.mirror.version ≡ batch.now.from }
         ensures { IfOk result (Advances batch.now self) }
@@ -51,7 +51,7 @@ impl Follower {
         }
     }
 
-    /// What the copy has.
+    /// The reply with the mirror.
     pub(crate) fn shown(&self) -> Result<StepReply, NoMemory>
         ensures { IfOk result (λ r. r ≡ StepReply.Mirror self.now.id.domain self.now.path self.now.mirror.version self.now.mirror.rows) }
     {

@@ -2,18 +2,18 @@
 //!
 //! | item | what it is |
 //! |---|---|
-//! | `Readers` | a `Reader` for each version of the schema of domain 0 and for each device: what reads the names, the paths and the values of a script |
+//! | `Readers` | a `Reader` for each version of the schema of domain 0 and for each device: reads the names, paths and values of a script |
 //! | `Reader` | a schema with its patterns compiled |
 //! | `ReadersFault` | which version of which schema has a malformed pattern |
-//! | `ClientRun` | a client on its way through its program: `next` answers local steps up to a shared call, `make` makes that |
+//! | `ClientRun` | a client in its program: `next` does local steps up to a shared call, `make` makes that |
 //! | `Wish`, `RpcWish`, `NoteWish`, `MountWish` | a shared call as a value, which a client is ready to make |
 //! | `RunFault` | why a client stops at a shared call |
 //! | `play` | a script played in its order, on one thread |
 //! | `Played`, `PlayFault` | the result: the hub and the replies; where the order fails |
 //!
-//! `play` gives what `sal_script` defines (`specs/Play.antt` there) over the domains of the hub. Only `ClientRun::make` wants the
-//! hub, for one call, so clients may as well run in threads of their own and take turns at it. What a call takes is read before:
-//! a wish has the rows and the paths, and is used up by the call.
+//! `play` gives what `sal_script` defines (`specs/Play.antt` there) over the domains of the hub. Only `ClientRun::make` needs the
+//! hub, for one call, so clients can also run in separate threads and take turns at it. The arguments of a call are read before:
+//! a wish has the rows and the paths, and the call consumes it.
 //!
 //! ```
 //! let readers = Readers::of(alloc, &versions, &devices)?;

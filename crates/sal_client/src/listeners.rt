@@ -27,7 +27,7 @@ use sal_types::{Duplicate, NoMemory, Path, Store, Str};
 use std::alloc::Global;
 use std::snapshot::Snapshot;
 
-// The answer to a listen that is good.
+// The reply to a done listen.
 fn listening(id: ListenerId, domain: u32, path: &Path, opened: Opened) -> Result<Reply, NoMemory>
     ensures { IfOk result (λ r. r ≡ Reply.Listener id.number domain path.now opened) }
 {
@@ -40,7 +40,7 @@ fn listening(id: ListenerId, domain: u32, path: &Path, opened: Opened) -> Result
     })
 }
 
-// Puts the listener into the slot, with a copy of what it was opened with.
+// Puts the listener into the slot, with a mirror of its snapshot.
 fn put_new(
     listeners: &mut Slots<Follower>,
     slot: u8,
@@ -54,7 +54,7 @@ fn put_new(
     fill_slot(listeners, slot, follower)
 }
 
-// Brings the listener in the slot to the end of the batch, which begins at its version.
+// Advances the listener in the slot to the end of the batch, which begins at its version.
 fn advance_in(
     alloc: Global,
     listeners: &mut Slots<Follower>,
@@ -74,7 +74,7 @@ fn advance_in(
     }
 }
 
-/// To what a client wants to listen, where the script has the domain and the text is a path; or why it can't.
+/// The target of a listen, if the script has the domain and the text is a path; or why there is none.
 pub(crate) fn target_of(
     alloc: Global,
     readers: &Readers,
@@ -138,7 +138,7 @@ impl ClientState {
         }
     }
 
-    /// Takes what changed for the listener in the slot, and brings its rows to there.
+    /// Takes the batch of the listener in the slot, and updates its mirror.
     pub(crate) fn take(
         &mut self,
         alloc: Global,
@@ -177,7 +177,7 @@ impl ClientState {
         answer_to(accepted(hub.unlisten(alloc, self.number, follower.id)))
     }
 
-    /// Shows the rows that follow the listener in the slot.
+    /// Shows the mirror of the listener in the slot.
     pub(crate) fn mirror(&self, readers: &Readers, slot: u8) -> Result<StepReply, NoMemory>
         ensures { IfOk result (λ r. Answers readers.now self.now (Mirror slot) r self.now) }
     {

@@ -1,4 +1,4 @@
-//! Looks into what a transaction sees.
+//! Reads in a transaction.
 ghost use Rattle.std.specs.Prelude.{◌≡◌, IfOk, OnOk};
 ghost use Rattle.sal_hub.specs.Tokens.{begun_of};
 ghost use Rattle.sal_client.specs.Clients.{IsOfSchema};
@@ -14,7 +14,7 @@ use sal_tx::{Tx, TxFault};
 use sal_types::{NoMemory, Path, Store};
 use std::alloc::Global;
 
-/// What a look asks for.
+/// The kind of a read.
 #[derive(Clone, Copy)]
 pub(crate) enum Look {
     /// The rows at a path and below it.
@@ -33,7 +33,7 @@ pub(crate) fn domain_of(tx: &Tx) -> u32
     }
 }
 
-/// The version of its domain's schema by which a transaction reads and writes: that which was present where it began.
+/// The version of its domain's schema by which a transaction reads and writes: the one that was present at its begin.
 pub(crate) fn version_of(tx: &Tx) -> u32
     ensures { result ≡ (begun_of tx.now).version }
 {
@@ -53,7 +53,7 @@ fn only_writes(domain: u32) -> StepReply
     })
 }
 
-// What a transaction sees at the path and below it. If its reads are checked, it has read the path then.
+// The rows that a transaction sees at and below the path. If its reads are checked, the read is recorded.
 fn rows_seen(alloc: Global, tx: &mut Tx, store: Store, path: Path) -> Result<StepReply, NoMemory>
     ensures seen { IfOk result (IsSeen tx.old store path Look.Read) }
     ensures after { OnOk result (tx.new ≡ after_look store path tx.old) }
@@ -73,7 +73,7 @@ fn rows_seen(alloc: Global, tx: &mut Tx, store: Store, path: Path) -> Result<Ste
     }
 }
 
-// Whether a transaction sees something at the path or below it.
+// Whether a transaction sees a row at or below the path.
 fn found_seen(alloc: Global, tx: &mut Tx, store: Store, path: &Path) -> Result<StepReply, NoMemory>
     ensures seen { IfOk result (IsSeen tx.old store path.now Look.Exists) }
     ensures after { OnOk result (tx.new ≡ after_look store path.now tx.old) }
@@ -92,7 +92,7 @@ fn found_seen(alloc: Global, tx: &mut Tx, store: Store, path: &Path) -> Result<S
     }
 }
 
-// What a look at the path shows of what a transaction sees.
+// The reply to a read of the path in a transaction.
 fn seen(
     alloc: Global,
     tx: &mut Tx,
@@ -109,7 +109,7 @@ fn seen(
     }
 }
 
-// What a look at the path of the text shows of the transaction of the slot.
+// The reply to a read of the text's path in the slot's transaction.
 fn looked(
     alloc: Global,
     readers: &Readers,
@@ -131,7 +131,7 @@ impl ClientState {
     ghost use Rattle.sal_client.specs.Clients.{HasSchema};
     ghost use Rattle.sal_client.specs.Meeting.{IsAnswered};
 
-    /// Looks at the path of the text in what the slot's transaction sees.
+    /// Reads the text's path in the slot's transaction.
     pub(crate) fn look(
         &mut self,
         alloc: Global,

@@ -1,4 +1,4 @@
-//! The shared calls of a client that need none of its slots: pumps and marks.
+//! The shared calls of a client that use no slot: pumps and marks.
 ghost use Rattle.std.specs.Prelude.{◌≡◌};
 ghost use Rattle.sal_hub.specs.Seen.{pump_reply, seen_reply};
 ghost use Rattle.sal_client.specs.Answers.{said};
@@ -14,7 +14,7 @@ use sal_rows::{CallFault, Outcome};
 use sal_script::StepReply;
 use std::alloc::Global;
 
-// What a pump decided, and where it decided nothing.
+// The receipt of a pump with its outcome, or that there was none.
 fn pumped(made: Result<Option<(Receipt, Outcome)>, CallFault>) -> Result<Reply, CallFault>
     ensures { result ≡ said pump_reply made }
 {
@@ -29,7 +29,7 @@ fn pumped(made: Result<Option<(Receipt, Outcome)>, CallFault>) -> Result<Reply, 
     }
 }
 
-// Whether the mark was left.
+// Whether the mark was set.
 fn looked(made: Result<Seen, CallFault>) -> Result<Reply, CallFault>
     ensures { result ≡ said seen_reply made }
 {
@@ -43,7 +43,7 @@ fn looked(made: Result<Seen, CallFault>) -> Result<Reply, CallFault>
 impl ClientState {
     ghost use Rattle.sal_client.specs.Clients.{IsSound};
 
-    /// Decides the first receipt that is pending.
+    /// Decides the first pending receipt.
     pub(crate) fn pump(&self, alloc: Global, hub: &mut Hub) -> Result<StepReply, RunFault>
         requires sound { IsSound hub.old self.now }
         ensures { Leaves Pump hub.old self.now hub.new self.now result }
@@ -52,7 +52,7 @@ impl ClientState {
         answer_to(pumped(hub.pump(alloc, self.number)))
     }
 
-    /// Leaves the mark in the log.
+    /// Sets the mark in the log.
     pub(crate) fn mark(
         &self,
         alloc: Global,
@@ -66,7 +66,7 @@ impl ClientState {
         answer_to(accepted(hub.mark(alloc, self.number, mark)))
     }
 
-    /// Asks whether the mark was left.
+    /// Asks whether the mark was set.
     pub(crate) fn after(
         &self,
         alloc: Global,

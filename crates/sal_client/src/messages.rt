@@ -18,7 +18,7 @@ use serde_json::Value;
 use std::alloc::Global;
 use std::snapshot::Snapshot;
 
-/// An RPC in a context, or without one, with the texts that they were read from. The texts are there for contracts alone.
+/// An RPC in a context, or without one, with the texts from which they were read. Only contracts use the texts.
 #[derive(Drop)]
 pub struct Service {
     pub name: Snapshot<Str>,
@@ -71,7 +71,7 @@ pub(crate) fn note_of(schema: &Schema, name: &Str) -> Result<u32, StepFault>
     known(note_called(schema, name.as_str()))
 }
 
-// The child of the RPC at the index, and the RPC itself where it has no such child.
+// The child of the RPC at the index, or the RPC itself if it has no such child.
 fn child_at(schema: &Schema, rpc: u32, index: usize) -> u32
     ensures { result ≡ unwrap_or (slice_get (children_of schema.now (Some rpc)) index) rpc }
 {
@@ -110,7 +110,7 @@ fn message_at(alloc: Global, node: u32) -> Result<Path, NoMemory>
     }
 }
 
-/// The rows that the value denotes under this input, output or notification, or why it denotes none.
+/// The rows that the value denotes below this input, output or notification, or why it denotes none.
 pub(crate) fn rows_under(
     alloc: Global,
     reader: &Reader,
@@ -130,7 +130,7 @@ pub(crate) fn path_at(alloc: Global, reader: &Reader, text: &Str) -> Result<Path
     operations::path_of(alloc, reader, text.as_str())
 }
 
-// The context of an RPC, if it is given, or why the text is none.
+// The context of an RPC, if it is given, or why the text is not a path.
 fn context_of(
     alloc: Global,
     reader: &Reader,

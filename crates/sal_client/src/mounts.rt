@@ -15,7 +15,7 @@ use sal_types::{Path, Str};
 use std::alloc::Global;
 use std::snapshot::Snapshot;
 
-/// A call for mounts that a client is ready to make. The texts of paths are there for contracts alone.
+/// A call for mounts that a client is ready to make. Only contracts use the texts of paths.
 #[derive(Drop)]
 pub enum MountWish {
     /// Mounts the device at the path.
@@ -39,7 +39,7 @@ impl ClientState {
     ghost use Rattle.sal_client.specs.Clients.{IsSound};
     ghost use Rattle.sal_client.specs.Wishes.{Wants};
 
-    /// To mount the device at the path of the text, where it is one.
+    /// To mount the device at the path of the text, if it is one.
     pub(crate) fn mount_wish(
         &self,
         alloc: Global,
@@ -57,7 +57,7 @@ impl ClientState {
         }))
     }
 
-    /// To ask which domain is mounted at the path of the text, where it is one.
+    /// To ask which domain is mounted at the path of the text, if it is one.
     pub(crate) fn mount_at_wish(
         &self,
         alloc: Global,

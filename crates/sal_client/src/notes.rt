@@ -18,7 +18,7 @@ use serde_json::Value;
 use std::alloc::Global;
 use std::snapshot::Snapshot;
 
-/// A call for notifications that a client is ready to make. Names and values that were read are there for contracts alone.
+/// A call for notifications that a client is ready to make. Only contracts use the names and values that were read.
 #[derive(Drop)]
 pub enum NoteWish {
     /// Subscribes the client to the notification.
@@ -52,7 +52,7 @@ impl ClientState {
         }))
     }
 
-    /// To offer the notification of this name, where the value is data of it.
+    /// To offer the notification of this name, if the value is data of it.
     pub(crate) fn offer_wish(
         &self,
         alloc: Global,

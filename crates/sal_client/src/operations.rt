@@ -18,7 +18,7 @@ use sal_types::{Path, Store, Str};
 use serde_json::Value;
 use std::alloc::Global;
 
-/// What a write does at its path, with a value that is not yet read.
+/// The act of a write, with a value that is not yet read.
 #[derive(Clone, Copy)]
 pub(crate) enum JsonAct<'a> {
     Put(&'a Value),
@@ -45,7 +45,7 @@ pub(crate) fn place_at(slot: u8, store: Store, path: &Str) -> Place<'_>
     }
 }
 
-/// The path of the text, or why it is none.
+/// The path of the text, or why it is not one.
 pub(crate) fn path_of(alloc: Global, reader: &Reader, text: &str) -> Result<Path, StepFault>
     ensures { Reads result (path_or (read_path reader.now text.now)) }
 {

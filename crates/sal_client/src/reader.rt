@@ -1,4 +1,4 @@
-//! What reads the paths and the data of a domain.
+//! The reader of the paths and the data of a domain.
 use sal_data::{DataFault, read_data};
 use sal_json::{Patterns, PatternsFault};
 use sal_pathtext::{PathTextFault, read_path};
@@ -10,7 +10,7 @@ use std::alloc::Global;
 use std::marker::Model;
 use std::sync::Arc;
 
-/// A schema with its patterns compiled. A contract sees the schema alone.
+/// A schema with its patterns compiled. A contract sees only the schema.
 #[derive(Drop)]
 pub struct Reader {
     schema: Arc<Schema>,
@@ -53,7 +53,7 @@ impl Reader {
         Ok(Reader { schema, patterns })
     }
 
-    /// The reader of an older version of the schema, which shares the patterns; none where the schema does not extend that version.
+    /// The reader of an older version of the schema, which shares the patterns; none if the schema does not extend that version.
     pub fn of_older(&self, older: &Arc<Schema>) -> Result<Option<Self>, NoMemory>
         ensures { IfOk result (λ found. IfSome found (λ reader. (reader ≡ older.now.value) × Extends self.now older.now.value)) }
     {

@@ -1,4 +1,4 @@
-//! What reads the paths and the data of all domains.
+//! The readers of the paths and the data of all domains.
 ghost use Rattle.std.specs.Prelude.{◌≡◌, ◌⊎◌, ◌+◌, ◌<◌, ◌≤◌, ◌∷◌, ◌++◌, [], false, is_some, length, IfOk, IfErr, IfSome, OnOk};
 ghost use Rattle.std.specs.List.{list_any};
 ghost use Rattle.sal_script.specs.Tables.{first_in, has_domain, has_upgrade, last_among, last_in, table_at, version_among};
@@ -57,7 +57,7 @@ impl Model for Readers {
     ghost invariant = { λ a. 0 < length a.own.items };
 }
 
-// The reader of a schema, where its patterns are well formed.
+// The reader of a schema, if its patterns are well formed.
 fn compiled(alloc: Global, index: usize, schema: Arc<Schema>) -> Result<Reader, ListFault>
     ensures reader { IfOk result (λ reader. reader ≡ schema.value) }
     ensures formed { IfOk result (λ _. is_malformed schema.value ≡ false) }
@@ -82,7 +82,7 @@ fn reader_of(alloc: Global, index: usize, schema: &Arc<Schema>) -> Result<Reader
     }
 }
 
-// The reader of a version, which shares the patterns of a later one, where that extends it.
+// The reader of a version, which shares the patterns of a later one if that extends it.
 fn sharing(
     alloc: Global,
     index: usize,
@@ -173,8 +173,8 @@ fn readers_of(
     Ok(list)
 }
 
-// The readers of the versions of one schema, version 0 first. The patterns of the last version are compiled, and the others share them. Where
-// one of them is malformed, each version's own are compiled, up to the first version that has it.
+// The readers of the versions of one schema, version 0 first. The patterns of the last version are compiled, and the others share them. If
+// one of them is malformed, the patterns of each version are compiled, up to the first version that has it.
 fn readers_of_versions(alloc: Global, versions: &[Arc<Schema>]) -> Result<Vec<Reader>, ListFault>
     requires { 1 ≤ length versions.now }
     ensures tables { IfOk result (λ list. list.items ≡ shared_tables versions.now) }
@@ -277,7 +277,7 @@ impl Readers {
         }
     }
 
-    /// The reader by the version of the controller's own domain, or by that of a device, which has one.
+    /// The reader by the version of the controller's own domain, or that of a device, which has one version.
     pub(crate) fn reader(&self, domain: u32, version: u32) -> &Reader
         requires { (domain ≡ 0) ⊎ (domain < length self.now) }
         ensures { result.now ≡ table_at self.now version domain }

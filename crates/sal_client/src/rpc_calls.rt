@@ -21,7 +21,7 @@ use sal_script::StepReply;
 use sal_types::NoMemory;
 use std::alloc::Global;
 
-// The answer to a look for the next request that is good.
+// The reply to a done look for the next request.
 fn handed(found: Option<Request>) -> Reply
     ensures { result ≡ request_reply found }
 {
@@ -103,7 +103,7 @@ impl ClientState {
         answer_to(output(id.rpc(), hub.collect(alloc, self.number, *id)))
     }
 
-    /// Makes the call for RPCs, and keeps what its answer leaves in the slots.
+    /// Makes the call for RPCs, and keeps its results in the slots.
     pub(crate) fn call_rpc(
         &mut self,
         alloc: Global,

@@ -1,4 +1,4 @@
-//! The steps of a client for RPCs, up to the calls that they ask for.
+//! The steps of a client for RPCs, up to their calls.
 ghost use Rattle.std.specs.Prelude.{◌≡◌};
 ghost use Rattle.serde_json.specs.View.{view};
 ghost use Rattle.sal_script.specs.Moves.{Answer as Answers};
@@ -21,14 +21,14 @@ use serde_json::Value;
 use std::alloc::Global;
 use std::snapshot::Snapshot;
 
-/// A request that the client was handed: its id, and the RPC.
+/// A request that the client took: its id, and the RPC.
 #[derive(Clone, Copy, Debug, PartialEq, Eq)]
 pub struct Invocation {
     pub id: u64,
     pub rpc: u32,
 }
 
-/// A request that a client wants to make, with the value that its input was read from. The value is there for contracts alone.
+/// A request that a client makes, with the value from which its input was read. Only contracts use the value.
 #[derive(Drop)]
 pub struct Ask {
     pub service: Service,
@@ -36,7 +36,7 @@ pub struct Ask {
     pub input: Rows,
 }
 
-/// The answer to a request that a client was handed, with the value that it was read from. The value is there for contracts alone.
+/// The answer to a request that a client took, with the value from which it was read. Only contracts use the value.
 #[derive(Drop)]
 pub struct Answer {
     pub request: Invocation,
@@ -61,7 +61,7 @@ pub enum RpcWish {
     Collect { slot: u8 },
 }
 
-// The request of the service with this input, or why the value is none.
+// The request of the service with this input, or why the value is not an input.
 fn ask_of(alloc: Global, reader: &Reader, service: Service, value: &Value) -> Result<Ask, StepFault>
     ensures { IsAsk reader.now service (view value.now) result }
 {
@@ -88,7 +88,7 @@ pub(crate) fn ask_by(
     ask_of(alloc, reader, service, value)
 }
 
-// The answer to the request with this output, or why the value is none.
+// The answer to the request with this output, or why the value is not an output.
 fn answer_of(
     alloc: Global,
     reader: &Reader,
@@ -116,7 +116,7 @@ pub(crate) fn provide_wish(read: Result<Service, StepFault>) -> Result<Wish, Ste
     }
 }
 
-/// To provide it no more.
+/// To withdraw it.
 pub(crate) fn withdraw_wish(read: Result<Service, StepFault>) -> Result<Wish, StepFault>
     ensures { result ≡ wished (λ service. Rpc (Withdraw service)) read }
 {

@@ -47,7 +47,7 @@ impl ClientRun {
         &self.client.replies
     }
 
-    /// The same, once it has reached its end.
+    /// The same, at the end of its program.
     pub fn into_replies(self) -> Seq<StepReply>
         ensures { result ≡ replies_in self }
     {
@@ -55,9 +55,9 @@ impl ClientRun {
         Seq::from_items(client.replies)
     }
 
-    /// Answers the local steps up to the next shared call, and says which that is; none where the program ends first. It takes
-    /// no turn at a hub: over each log that the client is sound for, these steps are answered the same. The gate is passed
-    /// before each step, that of the call among them.
+    /// Does the local steps up to the next shared call, and returns that; none if the program ends first. It takes
+    /// no turn at a hub: over each log for which the client is sound, these steps have the same replies. The gate is passed
+    /// before each step, also that of the call.
     pub fn next<G: Gate>(
         &mut self,
         alloc: Global,
@@ -85,8 +85,8 @@ impl ClientRun {
         Ok(None)
     }
 
-    /// Makes the shared call that `next` gave, on the hub, and takes its answer. Where the log is full, neither has changed.
-    /// After want of memory the run is not to be used again, and the hub has the call's entry or has not.
+    /// Makes the shared call that `next` returned, on the hub, and takes its reply. If the log is full, neither has changed.
+    /// If memory runs out, the run must not be used again, and the hub may or may not have the call's entry.
     pub fn make(&mut self, alloc: Global, hub: &mut Hub, wish: Wish) -> Result<(), RunFault>
         requires sound { IsSound hub.old self.old.client }
         requires can { CanMake wish self.old.client }

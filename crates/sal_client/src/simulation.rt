@@ -42,7 +42,7 @@ pub(crate) struct Simulation {
     pub(crate) runs: Vec<ClientRun>,
 }
 
-// The clients at their beginning.
+// The clients before their first steps.
 fn new_runs(alloc: Global, programs: &[Program]) -> Result<Vec<ClientRun>, NoMemory>
     requires limits { IsTrue (within_limits programs.now) }
     requires json { IsTrue (have_json_moves (clients_of programs.now)) }
@@ -68,7 +68,7 @@ fn into_replies(alloc: Global, runs: Vec<ClientRun>) -> Result<Seq<Seq<StepReply
 }
 
 impl Simulation {
-    // One number of the order: false where no client has it, or where that client has no shared call left.
+    // One number of the order: false if no client has it, or if that client has no shared call left.
     fn advance<G: Gate>(
         &mut self,
         alloc: Global,
@@ -114,7 +114,7 @@ impl Simulation {
         Ok(())
     }
 
-    // Lets each client answer the steps that are left: false where one has a shared call left.
+    // Does the remaining steps of each client: false if one has a shared call left.
     fn finish<G: Gate>(
         &mut self,
         alloc: Global,
@@ -136,7 +136,7 @@ impl Simulation {
     }
 }
 
-// The hub, with clients at their beginning.
+// The hub, with clients before their first steps.
 fn beginning(alloc: Global, hub: Hub, programs: &[Program]) -> Result<Simulation, PlayFault>
     requires limits { IsTrue (within_limits programs.now) }
     requires json { IsTrue (have_json_moves (clients_of programs.now)) }

@@ -1,4 +1,4 @@
-//! A client's slots: its own places for transactions, for receipts and for chains.
+//! A client's slots: its numbered places for transactions, for receipts and for chains.
 ghost use Rattle.std.specs.Prelude.{◌≡◌, None, Some, IsSome, OnOk};
 ghost use Rattle.std.specs.Option.{option_copied};
 ghost use Rattle.sal_script.specs.Play.{set_slot};
@@ -7,15 +7,15 @@ ghost use Rattle.sal_client.specs.Slots.{held, place_in};
 use sal_types::NoMemory;
 use std::alloc::Global;
 
-/// A slot that was filled, with what it holds now.
+/// A slot that was filled, with its present value.
 #[derive(Drop)]
 pub struct Slot<T> {
     number: u8,
     value: Option<T>,
 }
 
-/// What the slots 0 to 255 hold; an empty one holds nothing. A slot is in the list once it was filled, and stays there: a client
-/// has few, and those are looked through.
+/// The values of the slots 0 to 255; an empty one has none. A slot is in the list once it was filled, and stays there: a client
+/// has few, and the list is searched.
 pub type Slots<T> = Vec<Slot<T>>;
 
 /// Slots that are all empty. It takes no memory.
@@ -25,7 +25,7 @@ pub fn empty_slots<T>(alloc: Global) -> Slots<T>
     Vec::new(alloc)
 }
 
-/// Takes out what the slot holds.
+/// Takes the value out of the slot.
 pub fn take_slot<T: Drop>(slots: &mut Slots<T>, slot: u8) -> Option<T>
     ensures value { result ≡ held slots.old slot }
     ensures after { held slots.new ≡ set_slot slot None (held slots.old) }
@@ -38,7 +38,7 @@ pub fn take_slot<T: Drop>(slots: &mut Slots<T>, slot: u8) -> Option<T>
     }
 }
 
-/// Puts the value into the slot, over what it holds.
+/// Puts the value into the slot, in place of an earlier one.
 pub fn fill_slot<T: Drop>(slots: &mut Slots<T>, slot: u8, value: T) -> Result<(), NoMemory>
     ensures { OnOk result (held slots.new ≡ set_slot slot (Some value) (held slots.old)) }
 {
@@ -55,7 +55,7 @@ pub fn fill_slot<T: Drop>(slots: &mut Slots<T>, slot: u8, value: T) -> Result<()
     Ok(())
 }
 
-/// What the slot holds, which is filled.
+/// The value of the slot, which is filled.
 pub fn filled<T>(slots: &Slots<T>, slot: u8) -> &T
     requires { IsSome (held slots.now slot) }
     ensures { held slots.now slot ≡ Some result.now }
@@ -66,7 +66,7 @@ pub fn filled<T>(slots: &Slots<T>, slot: u8) -> &T
     }
 }
 
-/// What the slot holds.
+/// The value of the slot.
 pub fn look_at<T>(slots: &Slots<T>, slot: u8) -> Option<&T>
     ensures { option_copied result ≡ held slots.now slot }
 {
@@ -78,7 +78,7 @@ pub fn look_at<T>(slots: &Slots<T>, slot: u8) -> Option<&T>
     None
 }
 
-// The place of the slot, or the length if it is not in the list.
+// The index of the slot, or the length if it is not in the list.
 fn place_of<T>(slots: &[Slot<T>], slot: u8) -> usize
     ensures { result ≡ place_in slots.now slot }
 {

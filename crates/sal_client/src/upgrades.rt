@@ -18,7 +18,7 @@ impl ClientState {
     ghost use Rattle.sal_client.specs.Clients.{IsSound};
     ghost use Rattle.sal_client.specs.Wishes.{Wants};
 
-    /// To upgrade to the version, where the script has it.
+    /// To upgrade to the version, if the script has it.
     pub(crate) fn upgrade_wish(&self, readers: &Readers, version: u32) -> Result<Wish, StepFault>
         ensures { Wants readers.now self.now (asked.Upgrade version) result }
     {

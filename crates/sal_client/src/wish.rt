@@ -1,4 +1,4 @@
-//! The shared calls that steps ask for.
+//! The shared calls of steps.
 use crate::mounts::MountWish;
 use crate::notes::NoteWish;
 use crate::rpcs::RpcWish;
@@ -8,8 +8,8 @@ use std::alloc::AllocFailed;
 use std::snapshot::Snapshot;
 use thiserror::Error;
 
-/// To what a client wants to listen: a store of the domain, and a path with the text that it was read from. The text is there for
-/// contracts alone.
+/// The target of a listen: a store of the domain, and a path with the text from which it was read. Only contracts use
+/// the text.
 #[derive(Drop)]
 pub struct Target {
     pub domain: u32,
@@ -18,14 +18,14 @@ pub struct Target {
     pub path: Path,
 }
 
-/// A shared call that a client is ready to make. What it needs of a slot, as a transaction or a receipt, stays there until then.
+/// A shared call that a client is ready to make. Values in slots, such as a transaction or a receipt, stay there until then.
 #[derive(Drop)]
 pub enum Wish {
     /// Begins a transaction of the domain into the slot.
     Begin { slot: u8, domain: u32, mode: Mode },
     /// Submits the slot's transaction, which may write.
     Submit { slot: u8 },
-    /// Gives up the slot's transaction.
+    /// Cancels the slot's transaction.
     Cancel { slot: u8 },
     /// Settles the receipt in the slot.
     Settle { slot: u8 },
@@ -35,11 +35,11 @@ pub enum Wish {
     ChainBegin { chain: u8, slot: u8, mode: Mode },
     /// Closes the chain in the chain slot.
     CloseChain { chain: u8 },
-    /// Decides the first receipt that is pending.
+    /// Decides the first pending receipt.
     Pump,
     /// Listens there; the listener goes into the listener slot.
     Listen { slot: u8, target: Target },
-    /// Takes what changed for the listener in the slot.
+    /// Takes the batch of the listener in the slot.
     Take { slot: u8 },
     /// Removes the listener in the slot.
     Unlisten { slot: u8 },
@@ -49,9 +49,9 @@ pub enum Wish {
     Note(NoteWish),
     /// A call for mounts.
     Mount(MountWish),
-    /// Leaves the mark in the log.
+    /// Sets the mark in the log.
     Mark { mark: u32 },
-    /// Asks whether the mark was left.
+    /// Asks whether the mark was set.
     After { mark: u32 },
     /// Upgrades the schema of the controller's own domain to the version.
     Upgrade { version: u32 },
@@ -63,7 +63,7 @@ pub enum RunFault {
     /// The log is full, and has no entry of the call.
     #[error("the log is full")]
     HistoryFull,
-    /// Memory ran out, before the call or while its answer was kept.
+    /// Memory ran out, before the call or while its reply was kept.
     #[error("out of memory")]
     NoMemory,
 }

@@ -18,7 +18,7 @@ use sal_tx::{Tx, TxFault};
 use sal_types::NoMemory;
 use std::alloc::Global;
 
-// The reply to a write that the transaction of the domain answered so.
+// The reply to a write with this result.
 fn reply_to(domain: u32, answer: Result<(), TxFault>) -> Result<StepReply, NoMemory>
     ensures reply { IfOk result (λ r. MatchResult answer (λ _. r ≡ StepReply.Accepted) (λ fault. r ≡ StepReply.Refused (StepRefusal.Write domain fault))) }
     ensures memory { IfOk result (λ _. MatchResult answer (λ _. ⊤) (λ fault. fault ≡ TxFault.NoMemory → ⊥)) }
@@ -34,7 +34,7 @@ impl ClientState {
     ghost use Rattle.sal_client.specs.Clients.{domain_of, opened, standing_of, version_of, HasSchema};
     ghost use Rattle.sal_client.specs.Meeting.{IsAnswered, IsWritten};
 
-    // The domain of the slot's transaction; 0 of an empty slot.
+    // The domain of the slot's transaction; 0 for an empty slot.
     fn domain_in(&self, slot: u8) -> u32
         ensures { result ≡ domain_of (opened self.now slot) }
     {
@@ -44,7 +44,7 @@ impl ClientState {
         }
     }
 
-    // The version by which it is read; 0 of an empty slot.
+    // The version by which it is read; 0 for an empty slot.
     fn version_in(&self, slot: u8) -> u32
         ensures { result ≡ version_of (opened self.now slot) }
     {
@@ -54,7 +54,7 @@ impl ClientState {
         }
     }
 
-    /// Writes at the path of the text, where the slot's transaction may write.
+    /// Writes at the path of the text, if the slot's transaction may write.
     pub(crate) fn write(
         &mut self,
         alloc: Global,
@@ -85,7 +85,7 @@ impl ClientState {
         }
     }
 
-    // Adds the operation to the slot's transaction, which may write, unless that refuses it.
+    // Adds the operation to the slot's transaction, which may write, unless it is refused.
     fn write_op(
         &mut self,
         alloc: Global,

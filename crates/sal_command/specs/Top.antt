@@ -1,4 +1,4 @@
--- What each status of the command says.
+-- The meaning of each status of the command.
 use Rattle.std.specs.Prelude.{◌≡◌, ℕ, ◌≤◌, ⊤, List, MatchResult, Option, None, Some, Result, Ok, Err, Vec, length}
 use Rattle.std.specs.Io.KnownBytes.{Appends}
 use Rattle.std.specs.declared.alloc.Global.{Global}
@@ -32,7 +32,7 @@ use Rattle.sal_command.specs.declared.words.TextForm.TheVariants.{Sim, Schema, O
 
 -- ---- the result of a script
 
--- the report of what was played, or the index at which the order fails
+-- the report of a play, or the index at which the order fails
 abbrev pub text_of_play : List Domain → Result Played ℕ → Result (List ℕ) Status
 text_of_play world (Ok played) = Ok (report world played)
 text_of_play world (Err index) = Err (BadOrder index)
@@ -40,12 +40,12 @@ text_of_play world (Err index) = Err (BadOrder index)
 abbrev pub play_over : Parts → List Domain → Result (List ℕ) Status
 play_over parts world = text_of_play world (play world parts.clients parts.order)
 
--- The report of the script that the bytes denote, played in its order. What is wrong ahead of that counts first.
+-- The report of the script that the bytes denote, played in its order. An earlier fault is returned first.
 abbrev pub sim_text : List ℕ → Result (List ℕ) Status
 sim_text bytes = prepared bytes >>= (λ script. play_over script.parts script.world)
 
--- The same script, its clients run at the same time: the same faults ahead of that, and then the report of one order of their
--- shared calls, the one on the text's own first line. The order of the script is not used, and so never bad.
+-- The same script, its clients run at the same time: the same earlier faults, and then the report of one order of their
+-- shared calls, the one on the text's own first line. The order of the script is not used, and so is never a fault.
 abbrev pub RunsTo : List ℕ → Result (List ℕ) Status → Type 0
 RunsTo bytes (Ok text) = (script : Prepared) × (prepared bytes ≡ Ok script) × IsReportInSomeOrder script.world script.parts.clients text
 RunsTo bytes (Err (BadOrder index)) = ⊥
@@ -54,12 +54,12 @@ RunsTo bytes (Err (BadStream text)) = ⊥
 RunsTo bytes (Err (BadExport commit)) = ⊥
 RunsTo bytes (Err status) = prepared bytes ≡ Err status
 
--- A load: the one summary of its clients, whatever the order of their shared calls is. Its own script is always a script,
+-- A load: the one summary of its clients, for any order of their shared calls. Its own script is always a script,
 -- so there is no other result.
 abbrev pub LoadsTo : ℕ → ℕ → List ℕ → Type 0
 LoadsTo rounds start text = text ≡ load_text rounds start
 
--- A feed: the one text of its notes, whatever the threads do.
+-- A feed: the one text of its notifications, for any schedule of the threads.
 abbrev pub FeedsTo : ℕ → ℕ → List ℕ → Type 0
 FeedsTo notes capacity text = text ≡ feed_text notes capacity
 
@@ -71,7 +71,7 @@ modules_text modules = or_schema 0 (table_of modules) >>= (λ table. Ok (table_t
 abbrev pub schema_text : List ℕ → Result (List ℕ) Status
 schema_text bytes = or_script (script_of bytes) >>= (λ parts. modules_text parts.modules)
 
--- the text, or the first bad place as the status
+-- the text, or the first fault as the status
 abbrev pub or_bad_script : Result (List ℕ) (List ℕ) → Result (List ℕ) Status
 or_bad_script (Ok text) = Ok text
 or_bad_script (Err place) = Err (BadScript place)
@@ -80,7 +80,7 @@ or_bad_script (Err place) = Err (BadScript place)
 abbrev pub owner_text : List ℕ → Result (List ℕ) Status
 owner_text bytes = or_bad_script (replies.owner_text bytes)
 
--- the text of a form that makes it of its input alone, or the status of the first that is wrong
+-- the text of a form that depends on its input alone, or the status of the first fault
 abbrev pub made_text : TextForm → List ℕ → Result (List ℕ) Status
 made_text Sim bytes = sim_text bytes
 made_text Schema bytes = schema_text bytes
@@ -90,13 +90,13 @@ made_text Follow bytes = follow_text bytes
 made_text (Draw range) bytes = draw_text range bytes
 made_text Audit bytes = audit_text bytes
 
--- a text that is made of the bytes, or its status, is this one
+-- the text of the bytes, or its status, is this one
 abbrev pub IsMadeBy : (List ℕ → Result (List ℕ) Status) → List ℕ → Result (List ℕ) Status → Type 0
 IsMadeBy make bytes answer = make bytes ≡ answer
 
--- ---- what the command did
+-- ---- the effect of the command
 
--- a text was written, whole or, at a write fault, a front of it
+-- a text was written, whole or, at a write fault, a prefix of it
 abbrev pub Written : List ℕ → Option (List ℕ) → Option (List ℕ) → Status → Type 0
 Written text given given' Done = Appends given given' text
 Written text given given' WriteFault = (rest : List ℕ) × TakesFront given given' text rest
@@ -109,8 +109,8 @@ pub record ReadsInput (comes : List ℕ → Result (List ℕ) Status → Type 0)
   pub within : length bytes ≤ 16777216
   pub come : comes bytes answer
 
--- What a form did whose input gives a text or a status: of its input, as it was before and after, and of its output,
--- likewise. Where memory ran out, or a read failed, nothing was written.
+-- The effect of a form whose input gives a text or a status: on its input, as it was before and after, and on its output,
+-- likewise. If memory ran out, or a read failed, nothing was written.
 abbrev pub TextAnswers : (List ℕ → Result (List ℕ) Status → Type 0) → Option (List ℕ) → Option (List ℕ) → Option (List ℕ) → Option (List ℕ) → Status → Type 0
 TextAnswers comes before after given given' Done = (text : List ℕ) × ReadsInput comes before after (Ok text) × Written text given given' Done
 TextAnswers comes before after given given' WriteFault = (text : List ℕ) × ReadsInput comes before after (Ok text) × Written text given given' WriteFault
@@ -126,14 +126,14 @@ TextAnswers comes before after given given' ReadFault = given' ≡ given
 TextAnswers comes before after given given' NoMemory = given' ≡ given
 TextAnswers comes before after given given' BadWords = ⊥
 
--- What a form did that reads no input, and gives a text whatever its words say. If memory ran out nothing was written.
+-- The effect of a form that reads no input, and gives a text for any numbers in its words. If memory ran out nothing was written.
 abbrev pub OwnAnswers : (List ℕ → Type 0) → Option (List ℕ) → Option (List ℕ) → Status → Type 0
 OwnAnswers comes given given' Done = (text : List ℕ) × comes text × Written text given given' Done
 OwnAnswers comes given given' WriteFault = (text : List ℕ) × comes text × Written text given given' WriteFault
 OwnAnswers comes given given' NoMemory = given' ≡ given
 OwnAnswers comes given given' status = ⊥
 
--- what the command did, by the form of its words
+-- the effect of the command, by the form of its words
 abbrev pub Answers : Option Form → Option (List ℕ) → Option (List ℕ) → Option (List ℕ) → Option (List ℕ) → Status → Type 0
 Answers None before after given given' status = (status ≡ BadWords) × (after ≡ before) × (given' ≡ given)
 Answers (Some Run) before after given given' status = TextAnswers RunsTo before after given given' status
@@ -145,12 +145,12 @@ Answers (Some Version) before after given given' status = (after ≡ before) × 
 
 -- ---- when it is done
 
--- known bytes of which something is made: at most 16,777,216
+-- known bytes with a result: at most 16,777,216
 abbrev pub IsMade : {A : Type 0} → (List ℕ → Result A Status) → Option (List ℕ) → Type 0
 IsMade {A} make (Some bytes) = (length bytes ≤ 16777216) × ((made : A) × (make bytes ≡ Ok made))
 IsMade {A} make None = ⊥
 
--- Words that are known, with an input that is valid for them. A run asks nothing of the order of the script, and a load and a feed nothing
+-- Known words, with an input that is valid for them. A run has no condition on the order of the script, and a load and a feed have none
 -- at all.
 abbrev pub IsValid : Option Form → Option (List ℕ) → Type 0
 IsValid None before = ⊥
@@ -161,7 +161,7 @@ IsValid (Some (Feed notes capacity)) before = ⊤
 IsValid (Some Help) before = ⊤
 IsValid (Some Version) before = ⊤
 
--- done, unless a fault of the source or the sink or want of memory came between
+-- done, unless a fault of the source or the sink, or that memory ran out, came between
 abbrev pub IsDoneUnlessStopped : Status → Type 0
 IsDoneUnlessStopped Done = ⊤
 IsDoneUnlessStopped ReadFault = ⊤
@@ -169,7 +169,7 @@ IsDoneUnlessStopped WriteFault = ⊤
 IsDoneUnlessStopped NoMemory = ⊤
 IsDoneUnlessStopped status = ⊥
 
--- ---- what a function returned
+-- ---- results of functions
 
 -- all bytes of an input, of which there are not too many; or why there are none
 abbrev pub IsInputOr : Option (List ℕ) → Option (List ℕ) → Result (Vec ℕ Global) Status → Type 0
@@ -179,16 +179,16 @@ IsInputOr before after (Err ReadFault) = ⊤
 IsInputOr before after (Err NoMemory) = ⊤
 IsInputOr before after (Err status) = ⊥
 
--- the bytes of what was made
+-- the bytes of the result
 abbrev pub bytes_of : Made → List ℕ
 bytes_of (made_as.Words text) = text
 bytes_of (made_as.Plain bytes) = bytes
 
--- what is made, or its status; nothing is said of want of memory
+-- the result, or its status; `NoMemory` has no condition
 abbrev pub IsMadeOr : Result (List ℕ) Status → Result Made Status → Type 0
 IsMadeOr made result = MatchResult result (λ it. made ≡ Ok (bytes_of it)) (IsTextStatus made)
 
--- a text that a run may give; nothing is said of want of memory
+-- a text that a run may write; `NoMemory` has no condition
 abbrev pub IsRunOr : List ℕ → Result (List ℕ) Status → Type 0
 IsRunOr bytes result = MatchResult result (λ text. RunsTo bytes (Ok text)) (IsStatusOf (prepared bytes))
 

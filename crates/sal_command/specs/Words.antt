@@ -33,7 +33,7 @@ value_of word = if nat_lt (read_on 0 word) (2 ^ 32) then Some (read_on 0 word) e
 abbrev pub plain_value : List ℕ → Option ℕ
 plain_value word = if is_plain word then value_of word else None
 
--- the number, where it is within these limits
+-- the number, if it is within these limits
 abbrev pub within : ℕ → ℕ → ℕ → Option ℕ
 within least most n = if nat_le least n && nat_le n most then Some n else None
 
@@ -43,11 +43,11 @@ number_of least most word = option_and_then (within least most) (plain_value wor
 
 -- ---- forms
 
--- the entries from one place of the log to another
+-- the entries from one index of the log to another
 abbrev pub range_of : ℕ → ℕ → Range
 range_of from to = record { from = from; to = to }
 
--- a form whose text is made of its input alone
+-- a form whose text depends on its input alone
 abbrev pub text_form_named : List ℕ → Option TextForm
 text_form_named word =
     if text_eq word (codes "sim") then Some Sim
@@ -69,11 +69,11 @@ form_named word =
 abbrev pub load_of : List ℕ → List ℕ → Option Form
 load_of rounds start = option_and_then (λ n. option_map (Load n) (number_of 0 65536 start)) (number_of 1 10000 rounds)
 
--- 1 to 100,000 notes over a feed in which 1 to 4,096 wait at most
+-- 1 to 100,000 notifications through a feed in which at most 1 to 4,096 wait
 abbrev pub feed_of : List ℕ → List ℕ → Option Form
 feed_of notes capacity = option_and_then (λ n. option_map (Feed n) (number_of 1 4096 capacity)) (number_of 1 100000 notes)
 
--- the entries from a place of at most 1,000,000 to one that is not before it
+-- the entries from an index of at most 1,000,000 to one that is not before it
 abbrev pub draw_of : List ℕ → List ℕ → Option Form
 draw_of from to = option_and_then (λ n. option_map (λ m. Text (Draw (range_of n m))) (number_of n 1000000 to)) (number_of 0 1000000 from)
 

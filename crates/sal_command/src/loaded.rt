@@ -41,7 +41,7 @@ pub(crate) fn load_text<R: Threads + Wait + Sync, G: Gate>(
     }
 }
 
-// The script of a load, with the hub over its domain. It is always a script, so nothing but memory can be wanting.
+// The script of a load, with the hub over its domain. It is always a script, so it fails only if memory runs out.
 fn prepare_load(alloc: Global, rounds: u32, start: u32) -> Result<Prepared, Status>
     requires rounds { rounds ≤ 10000 }
     requires start { start ≤ 65536 }
@@ -57,7 +57,7 @@ fn prepare_load(alloc: Global, rounds: u32, start: u32) -> Result<Prepared, Stat
     Ok(prepared)
 }
 
-// Runs the clients of a load over a hub without calls. What they left is not let go: the process ends next, and gives back all at once.
+// Runs the clients of a load over a hub without calls. The result is not dropped: the process ends next, and frees all at once.
 fn run_load<R: Threads + Wait + Sync, G: Gate>(
     rt: &R,
     alloc: Global,

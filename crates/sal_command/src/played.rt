@@ -44,7 +44,7 @@ pub(crate) fn run_text<R: Threads + Wait + Sync, G: Gate>(
     }
 }
 
-// The same over a hub without calls. The script is let go before its report is made.
+// The same over a hub without calls. The script is dropped before its report is made.
 fn run_over<R: Threads + Wait + Sync, G: Gate>(
     rt: &R,
     alloc: Global,
@@ -64,7 +64,7 @@ fn run_over<R: Threads + Wait + Sync, G: Gate>(
     Ok(text)
 }
 
-// What the clients left, with the last versions of the schemas of its domains.
+// The result of the clients, with the last versions of the schemas of its domains.
 fn left_over<R: Threads + Wait + Sync, G: Gate>(
     rt: &R,
     alloc: Global,
@@ -96,7 +96,7 @@ pub(crate) fn sim_text<G: Gate>(alloc: Global, bytes: &[u8], gate: &G) -> Result
     play_over(alloc, read, hub, gate)
 }
 
-// The same over a hub without calls. The script is let go before its report is made.
+// The same over a hub without calls. The script is dropped before its report is made.
 fn play_over<G: Gate>(alloc: Global, read: ReadScript, hub: Hub, gate: &G) -> Result<Str, Status>
     requires schemas { tables_in read.schemas.items ≡ tables_of hub.world }
     requires few { length read.schemas.items ≤ 64 }
@@ -114,7 +114,7 @@ fn play_over<G: Gate>(alloc: Global, read: ReadScript, hub: Hub, gate: &G) -> Re
     }
 }
 
-// What was played, with the last versions of the schemas of its domains.
+// The play, with the last versions of the schemas of its domains.
 fn played_over<G: Gate>(
     alloc: Global,
     read: ReadScript,
@@ -137,7 +137,7 @@ fn played_over<G: Gate>(
     }
 }
 
-// The report of what was played. That is not let go: the process ends next, and gives back all at once.
+// The report of a play. The play is not dropped: the process ends next, and frees all at once.
 fn last_report(alloc: Global, schemas: &[Arc<Schema>], played: Played) -> Result<Str, NoMemory>
     requires schemas { tables_in schemas.now ≡ tables_of played.hub.world }
     requires few { length schemas.now ≤ 64 }

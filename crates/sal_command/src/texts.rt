@@ -1,4 +1,4 @@
-//! The texts that are made of an input alone, by the form of the words.
+//! The texts that depend on the input alone, by the form of the words.
 ghost use Rattle.std.specs.Prelude.{◌≡◌, List, ℕ};
 ghost use Rattle.std.specs.declared.result.Result.{Result as Either};
 ghost use Rattle.sal_prepare.specs.declared.status.Status.{Status as Ends};
@@ -17,7 +17,7 @@ use sal_script::{Script, ScriptFault};
 use sal_types::{Bytes, NoMemory, Str};
 use std::alloc::Global;
 
-/// What was made of an input.
+/// The result for an input.
 #[derive(Drop)]
 pub(crate) enum Made {
     /// A report, a table, replies, a line.
@@ -38,7 +38,7 @@ impl Made {
     }
 }
 
-/// What a form of the words makes of these bytes, or the status of the first that is wrong with them. Scripts that are played for their
+/// The result of a form of the words for these bytes, or the status of their first fault. Scripts that are played for their
 /// report pass the gate.
 pub(crate) fn made_by<G: Gate>(
     alloc: Global,
@@ -59,7 +59,7 @@ pub(crate) fn made_by<G: Gate>(
     }
 }
 
-// A text as what was made.
+// A text as the result.
 fn as_words(text: Result<Str, Status>) -> Result<Made, Status>
     ensures { (made : Either (List ℕ) Ends) → IsTextOr made text → spec.IsMadeOr made result }
 {
@@ -69,7 +69,7 @@ fn as_words(text: Result<Str, Status>) -> Result<Made, Status>
     }
 }
 
-// Bytes as what was made.
+// Bytes as the result.
 fn as_plain(bytes: Result<Bytes, Status>) -> Result<Made, Status>
     ensures { (made : Either (List ℕ) Ends) → IsTextOr made bytes → spec.IsMadeOr made result }
 {

@@ -1,4 +1,4 @@
-//! The top call: all that the command does.
+//! The top call: the whole command.
 ghost use Rattle.std.specs.Prelude.{◌≡◌, ◌↔◌, ◌≤◌, None, IfErr};
 ghost use Rattle.sal_io.specs.Causes.{Rose};
 ghost use Rattle.sal_command.specs.Words.{form_of};
@@ -16,7 +16,7 @@ use std::alloc::Global;
 use std::sync::Wait;
 use std::thread::Threads;
 
-/// How many bytes a script has at most.
+/// The largest number of bytes of a script.
 pub const LIMIT: usize = 16777216;
 
 /// The help text.
@@ -82,10 +82,10 @@ exit status, each but 0 with its line on standard error:\n\
 pub const VERSION: &str = "mdsal 0.1.0\n";
 
 /// Runs the command: the words of its command line, its input, its output, and the gate that a client passes before
-/// each of its steps. With `run`, `load` and `feed` it starts threads and waits for them. What a report of a played
-/// script says of its order is the law `plays_follow_their_order` of `sal_script`; that its first line states one order and no
-/// other is `first_lines_tell_one_order`. It does not free what it played, since the process ends then: a caller that runs further keeps
-/// that memory taken.
+/// each of its steps. With `run`, `load` and `feed` it starts threads and waits for them. The law `plays_follow_their_order` of
+/// `sal_script` says what the report of a played script has of its order; `first_lines_tell_one_order` says that its first line states
+/// exactly one order. It does not free the play, since the process ends then: in a caller that continues, that memory stays
+/// allocated.
 pub fn mdsal<R: Threads + Wait + Sync, S: Source, K: Sink, G: Gate>(
     rt: &R,
     alloc: Global,
@@ -152,7 +152,7 @@ fn load<R: Threads + Wait + Sync, K: Sink, G: Gate>(
     }
 }
 
-// Reads the input, and writes what the form makes of it.
+// Reads the input, and writes the result of the form for it.
 fn make<S: Source, K: Sink, G: Gate>(
     alloc: Global,
     form: TextForm,
@@ -173,7 +173,7 @@ fn make<S: Source, K: Sink, G: Gate>(
     }
 }
 
-// Hands notifications over a feed, and writes what came.
+// Passes notifications through a feed, and writes the result.
 fn feed<R: Threads + Wait + Sync, K: Sink>(
     rt: &R,
     alloc: Global,

@@ -13,13 +13,13 @@ use sal_types::Str;
 /// A form of the command.
 #[derive(Clone, Copy, Debug, PartialEq, Eq)]
 pub enum Form {
-    /// Runs the script's clients on threads of their own and writes the report.
+    /// Runs the script's clients on separate threads and writes the report.
     Run,
-    /// Makes a text of the input alone, and writes it.
+    /// Makes a text from the input alone, and writes it.
     Text(TextForm),
-    /// Runs four clients that put entries into one list, each in so many rounds, and writes the summary.
+    /// Runs four clients that put entries into one list, each in `rounds` rounds, and writes the summary.
     Load { rounds: u32, start: u32 },
-    /// Hands so many notifications from thread to thread over a feed of this capacity, and writes how many came and the sum of their numbers.
+    /// Passes `notes` notifications from thread to thread through a feed of this capacity, and writes how many came and the sum of their numbers.
     Feed { notes: u32, capacity: u32 },
     /// Writes the help text.
     Help,
@@ -27,7 +27,7 @@ pub enum Form {
     Version,
 }
 
-/// A form whose text is made of its input alone.
+/// A form whose text depends on its input alone.
 #[derive(Clone, Copy, Debug, PartialEq, Eq)]
 pub enum TextForm {
     /// The report of the script, played in its order.
@@ -46,10 +46,10 @@ pub enum TextForm {
     Audit,
 }
 
-/// The greatest place of an entry that words can give; no script has as many steps.
+/// The greatest index of an entry in the words; no script has as many steps.
 const MAX_PLACE: u32 = 1000000;
 
-/// The form that the words are, if any.
+/// The form of the words, if any.
 pub fn form_of(words: &[Str]) -> Option<Form>
     ensures form { result ≡ form_of words.now }
     ensures within { IfSome result IsWithin }
@@ -175,7 +175,7 @@ fn within(least: u32, most: u32, number: u32) -> Option<u32>
     }
 }
 
-// The number that decimal digits say, without a sign and without a zero before others.
+// The value of decimal digits, without a sign and without leading zeros.
 fn plain_value(word: &str) -> Option<u32>
     ensures { result ≡ spec.plain_value word.now }
 {

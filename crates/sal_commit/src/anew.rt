@@ -12,8 +12,8 @@ use sal_tree::Commit;
 use std::sync::Arc;
 
 impl Domain {
-    /// Begins the next epoch in place, under the version rules: the newest trees are the opening, with their nodes and the stamps of these, and the
-    /// present version of the schema is version 0. All commits before go. It copies no node, makes no check and takes no memory.
+    /// Begins the next epoch in place, under the version rules: the newest trees are the opening, with their nodes and stamps, and the
+    /// present version of the schema is version 0. All earlier commits are dropped. It copies no node, makes no check and takes no memory.
     pub fn begin_anew(&mut self, rules: Rules)
         requires { AreKept self.old.commits.items }
         ensures { BeginsAnew self.old rules self.new }
@@ -27,7 +27,7 @@ impl Domain {
     }
 }
 
-// Leaves the opening alone, with the trees and the receipt of the newest commit.
+// Keeps only the opening, with the trees and the receipt of the newest commit.
 fn keep_newest(commits: &mut Vec<Commit>)
     ensures { commits.new.items ≡ begun_anew commits.old.items }
 {
@@ -41,7 +41,7 @@ fn keep_newest(commits: &mut Vec<Commit>)
     commits.truncate(1);
 }
 
-// The version is the first one from now on: those before it go.
+// The version becomes the first one: those before it are dropped.
 fn drop_versions(first: &mut Arc<Schema>, upgrades: &mut Vec<Arc<Schema>>, version: u32)
     ensures first { first.new.value ≡ version_from first.old.value (tables_of upgrades.old.items) version }
     ensures upgrades { tables_of upgrades.new.items ≡ drop version (tables_of upgrades.old.items) }
@@ -51,7 +51,7 @@ fn drop_versions(first: &mut Arc<Schema>, upgrades: &mut Vec<Arc<Schema>>, versi
     }
 }
 
-// The next version, if there is one, is the first one from now on.
+// The next version, if there is one, becomes the first one.
 fn drop_first(first: &mut Arc<Schema>, upgrades: &mut Vec<Arc<Schema>>)
     ensures first { first.new.value ≡ version_from first.old.value (tables_of upgrades.old.items) 1 }
     ensures upgrades { tables_of upgrades.new.items ≡ drop 1 (tables_of upgrades.old.items) }

@@ -11,7 +11,7 @@ use sal_tx::{Submission, first_steps};
 use sal_types::NoMemory;
 use std::alloc::Global;
 
-/// The outcome that names the first conflict of the submission, where it has one. Only the path is copied.
+/// The outcome with the first conflict of the submission, if it has one. Only the path is copied.
 pub(crate) fn conflict_in(
     alloc: Global,
     sub: &Submission,
@@ -34,7 +34,7 @@ pub(crate) fn conflict_in(
     }
 }
 
-// The outcome that names the clash of one of the operations.
+// The outcome with the conflict of one of the operations.
 fn named(alloc: Global, ops: &[Op], clash: Clash) -> Result<Option<Outcome>, NoMemory>
     ensures { IfOk result (λ o. o ≡ option_map (outcome.conflict_of clash) (slice_get ops.now clash.op)) }
 {
@@ -45,7 +45,7 @@ fn named(alloc: Global, ops: &[Op], clash: Clash) -> Result<Option<Outcome>, NoM
     Ok(Some(refused))
 }
 
-// A clash of the operation, named by its store and its place.
+// A conflict of the operation, with its store and its place.
 fn conflict_of(alloc: Global, found: Clash, op: &Op) -> Result<Outcome, NoMemory>
     ensures { IfOk result (λ o. o ≡ outcome.conflict_of found op.now) }
 {

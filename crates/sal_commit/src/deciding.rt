@@ -11,10 +11,10 @@ use sal_tx::Submission;
 use sal_types::NoMemory;
 use std::alloc::Global;
 
-/// Decides the submission at the newest commit of its domain. Answers the outcome, and adds the next commit with both trees if it is done. If its
-/// chain has failed, by the receipt `failed`, that is the outcome; else, if the domain is not live, that it is unmounted. The commit's
-/// receipt, and the stamp of the nodes that it touches, count on from the receipt of the opening. If memory runs out, the domain has the commits that it
-/// had.
+/// Decides the submission at the newest commit of its domain. Returns the outcome, and adds the next commit with both trees if it is done.
+/// If its chain has failed, at the receipt `failed`, that is the outcome; else, if the domain is not live, that it is unmounted. The
+/// commit's receipt, and the stamp of the nodes that it touches, are counted from the receipt of the opening. If memory runs out, the
+/// domain's commits are unchanged.
 pub fn decide(
     alloc: Global,
     sub: &Submission,

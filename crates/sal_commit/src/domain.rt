@@ -20,15 +20,15 @@ use sal_types::NoMemory;
 use std::alloc::Global;
 use std::sync::Arc;
 
-/// A domain: a pair of stores with one schema in some versions, of which one is the present one, and its commits from the opening
-/// on. Commit `k` is at index `k`. From the newest commit at the last upgrade on, no tree of a commit breaks a structural rule
-/// by the present version; the plan of rules is that of this version. Each commit was made of the one before it: what its
-/// operations touch has the stamp of its receipt, and every other node stayed. So where nodes of two neighbours have one path and
-/// one stamp, they are the same. Its submissions are decided by its version rules.
+/// A domain: a pair of stores with one schema in several versions, one of which is the present one, and its commits, the opening first.
+/// Commit `k` is at index `k`. From the newest commit at the last upgrade on, no tree of a commit breaks a structural rule
+/// of the present version; the plan of rules is that of this version. Each commit was made from the one before it: the nodes that its
+/// operations touch have the stamp of its receipt, and every other node is the same. So if nodes of two neighbouring commits have one
+/// path and one stamp, they are equal. The domain's version rules decide its submissions.
 #[derive(Drop)]
 pub struct Domain {
     pub number: u32,
-    /// Whether the domain takes transactions and makes commits, as a device's does from its mount to its unmount.
+    /// Whether the domain takes transactions and makes commits; a device's does from its mount to its unmount.
     pub live: bool,
     /// The present version of the schema.
     pub schema: Arc<Schema>,
@@ -54,7 +54,7 @@ impl Domain {
     ghost use Rattle.sal_commit.specs.Versions.{tables_of};
 
     /// The domain of this number over the versions and the opening trees of a device, with these version rules, unless one of the trees
-    /// breaks a structural rule by version 0, which is the present one then.
+    /// breaks a structural rule of version 0, which is then the present one.
     pub fn open(
         alloc: Global,
         number: u32,

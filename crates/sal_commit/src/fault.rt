@@ -6,7 +6,7 @@ use thiserror::Error;
 /// Why a domain is not opened over a device.
 #[derive(Debug, Drop, Error)]
 pub enum DomainFault {
-    /// The opening tree of the store breaks a structural rule. The configuration is looked at first.
+    /// The opening tree of the store breaks a structural rule. The configuration is checked first.
     #[error("a structural rule is broken")]
     Broken { store: Store, breach: Breach },
     #[error("out of memory")]

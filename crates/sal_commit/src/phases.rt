@@ -34,7 +34,7 @@ pub struct Prepared {
 /// Why a submission cannot be committed.
 #[derive(Debug, Drop, Error)]
 pub enum CanFault {
-    /// Its chain has failed, its domain is not live any more, or it conflicts with a later commit.
+    /// Its chain has failed, its domain is not live, or it conflicts with a later commit.
     #[error("refused")]
     Refused { outcome: Outcome },
     #[error("out of memory")]
@@ -73,7 +73,7 @@ impl From<NoMemory> for PreFault {
     }
 }
 
-/// canCommit: whether the submission's chain has failed, by the receipt `failed`, or its domain is not live any more, or it
+/// canCommit: whether the submission's chain has failed, at the receipt `failed`, or its domain is not live, or it
 /// conflicts with the foreign commits after its base, which are those that are not of its own chain.
 pub fn can<'a>(
     alloc: Global,
@@ -101,10 +101,10 @@ pub fn can<'a>(
     }
 }
 
-/// How many receipts are given in all epochs of a domain, at most; with more, memory runs out.
+/// The largest number of receipts in all epochs of a domain; with more, the result is `NoMemory`.
 const MAX_RECEIPTS: u64 = 2305843009213693952;
 
-// The stamp of what the submission touches: that of its receipt, which counts on from the opening's.
+// The stamp of the nodes that the submission touches: that of its receipt, which is counted from the opening's.
 fn fresh_stamp(sub: &Submission, domain: &Domain) -> Result<u64, NoMemory>
     requires { 1 ≤ length domain.now.commits.items }
     ensures stamp { IfOk result (λ fresh. fresh ≡ stamp_of (first_receipt domain.now.commits.items + sub.now.receipt)) }
@@ -117,8 +117,8 @@ fn fresh_stamp(sub: &Submission, domain: &Domain) -> Result<u64, NoMemory>
     Ok((first + sub.receipt) * 2 + 1)
 }
 
-/// preCommit: both trees after the submission, if they break no structural rule. The commit's receipt counts on from that of the opening, and the nodes
-/// that it touches get the stamp of that receipt. It takes all memory of the decision, and changes nothing.
+/// preCommit: both trees after the submission, if they break no structural rule. The commit's receipt is counted from that of the opening,
+/// and the nodes that it touches get the stamp of that receipt. It takes all memory of the decision, and changes nothing.
 pub fn pre(alloc: Global, ready: Ready) -> Result<Prepared, PreFault>
     requires given { spec.IsFor ready.domain.now ready.sub.now }
     requires later { IsNewReceipt ready.domain.now.commits.items ready.sub.now.receipt }
@@ -136,8 +136,8 @@ pub fn pre(alloc: Global, ready: Ready) -> Result<Prepared, PreFault>
     Ok(Prepared { commit })
 }
 
-// The commit of the submission, with the next number of the domain and with these trees. Its operations are the submission's own
-// list, which that shares with its entry of the log. Its receipt counts on from that of the opening.
+// The commit of the submission, with the next number of the domain and with these trees. It shares its list of operations
+// with its entry of the log. Its receipt is counted from that of the opening.
 fn next_commit(
     alloc: Global,
     sub: &Submission,
@@ -162,9 +162,9 @@ fn next_commit(
     })
 }
 
-/// commit: the prepared commit is the domain's newest one, with both its trees. It takes no memory.
+/// commit: the prepared commit becomes the domain's newest one, with both its trees. It takes no memory.
 ///
-/// The commit was prepared for the domain: its trees break no rule of the domain's schema, and were made of the newest ones.
+/// The commit was prepared for the domain: its trees break no rule of the domain's schema, and were made from the newest ones.
 pub fn publish(prepared: Prepared, domain: &mut Domain) -> Outcome
     requires room { is_roomy domain.old }
     requires sound { BreakNone domain.old.schema.value prepared.commit.trees }

@@ -1,4 +1,4 @@
-//! Both trees of the next commit, and what is wrong with them.
+//! Both trees of the next commit, and the rule that they break.
 ghost use Rattle.std.specs.Prelude.{◌≡◌, ◌-◌, ◌∷◌, [], IfOk, None, length, slice_index_or};
 ghost use Rattle.std.specs.Option.{option_or};
 ghost use Rattle.sal_types.specs.declared.value.Store.{Store as OfStore};
@@ -26,7 +26,7 @@ use sal_tx::{Submission, edited};
 use sal_types::{Duplicate, NoMemory, Store};
 use std::alloc::Global;
 
-/// The newest trees of the domain after the submission's operations. Nodes that these touch get the stamp `fresh`, and
+/// The newest trees of the domain with the submission's operations applied. Nodes that these touch get the stamp `fresh`, and
 /// all others are shared.
 pub(crate) fn next_trees(
     alloc: Global,
@@ -72,7 +72,7 @@ fn applied(alloc: Global, trees: Pair, op: &Op, fresh: u64) -> Result<Pair, NoMe
     Ok(Pair { config, oper })
 }
 
-// The tree of the store after the operation: the same one, where that is of the other store.
+// The tree of the store after the operation: the same one, if that is of the other store.
 fn after_op(alloc: Global, tree: &Root, store: Store, op: &Op, fresh: u64) -> Result<Root, NoMemory>
     requires { under (rows_of_act op.now.act) op.now.path ≡ rows_of_act op.now.act }
     ensures rows { IfOk result (λ after. rows_of after ≡ apply_ops (rows_of tree.now) store (op.now ∷ [])) }
@@ -89,8 +89,8 @@ fn after_op(alloc: Global, tree: &Root, store: Store, op: &Op, fresh: u64) -> Re
     Ok(next)
 }
 
-/// The outcome that names the rule that the trees break, where they break one: of the configuration first. The trees were
-/// made of the newest ones of the domain, and what changed has the stamp `fresh`.
+/// The outcome with the rule that the trees break, if they break one: of the configuration first. The trees were
+/// made from the newest ones of the domain, and changed nodes have the stamp `fresh`.
 pub(crate) fn breached(
     alloc: Global,
     domain: &Domain,
@@ -124,7 +124,7 @@ fn first_breach(
     Ok(outcome)
 }
 
-// The outcome that names the rule that the tree of the store breaks.
+// The outcome with the rule that the tree of the store breaks.
 fn invalid(
     alloc: Global,
     plan: &Plan,

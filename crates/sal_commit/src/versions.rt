@@ -1,4 +1,4 @@
-//! The versions of a domain's schema: what an upgrade to the next one needs, and the upgrade.
+//! The versions of a domain's schema: the preparation of an upgrade, and the upgrade.
 ghost use Rattle.std.specs.Prelude.{◌≡◌, ◌+◌, ◌≤◌, None, IfOk, MatchResult, length};
 ghost use Rattle.sal_types.specs.declared.value.Store.{Store as Of};
 ghost use Rattle.sal_rows.specs.Clash.{tip};
@@ -15,7 +15,7 @@ use sal_types::NoMemory;
 use std::alloc::Global;
 use std::sync::Arc;
 
-/// A version of a domain's schema with the plan of its rules, made and not yet the present one.
+/// A version of a domain's schema with the plan of its rules, prepared and not yet the present one.
 #[derive(Drop)]
 pub struct NextVersion {
     pub number: u32,
@@ -36,7 +36,7 @@ impl Domain {
         &self.upgrades[count - 1]
     }
 
-    /// The next version with the plan of its rules, unless a newest tree breaks one of these; the configuration is looked at first.
+    /// The next version with the plan of its rules, unless a newest tree breaks one of these; the configuration is checked first.
     /// It takes all memory of the upgrade, and changes nothing. It goes over both newest trees once.
     pub fn next_version(&self, alloc: Global, number: u32) -> Result<NextVersion, DomainFault>
         requires kept { AreKept self.now.commits.items }
@@ -52,7 +52,7 @@ impl Domain {
         }
     }
 
-    /// Goes over to the version, by which the newest trees break no rule. It takes no memory.
+    /// Makes the version the present one; the newest trees break no rule of it. It takes no memory.
     pub fn upgrade(&mut self, next: NextVersion)
         requires kept { AreKept self.old.commits.items }
         requires version { next.schema.value ≡ spec.version_in self.old next.number }

@@ -3,14 +3,14 @@ ghost use Rattle.sal_commit_laws.specs.Stamps.{AgreeByStamps, LaterStampsAreNew,
 
 use sal_commit::Domain;
 
-/// In the trees of two commits, nodes at one path with one stamp are the same, with all that is below them; the rows at the path and below
-/// it are equal.
+/// In the trees of two commits, nodes at one path with one stamp are the same, with all below them; the rows at and below the path
+/// are equal.
 pub fn one_stamp_is_one_node()
     ensures node { OneStampIsOneNode }
     ensures rows { OneStampHasOneTree }
 {}
 
-/// The commits of a domain agree so, by what the type `Domain` keeps.
+/// The commits of a domain agree in this way, by the invariant of the type `Domain`.
 pub fn domains_keep_stamps(domain: &Domain)
     ensures agree { AgreeByStamps domain.now.commits.items }
 {
@@ -28,8 +28,8 @@ pub fn stamps_never_come_again()
     ensures new { LaterStampsAreNew }
 {}
 
-/// No committed tree has the stamp of a transaction. What a transaction touched has its stamp in its view, and everything else is the node
-/// of its base.
+/// No committed tree has the stamp of a transaction. The nodes that a transaction touched have its stamp in its view, and every other node
+/// is that of its base.
 pub fn views_have_stamps_of_their_own()
     ensures own { ViewStampsAreNoCommits }
     ensures touched { ViewsDifferWhereTouched }

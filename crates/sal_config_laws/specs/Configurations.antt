@@ -23,12 +23,12 @@ is_config_row table row = not (is_of_state table row.path)
 abbrev pub is_config : SchemaTable → List Row → Bool
 is_config table rows = list_all (is_config_row table) rows
 
--- the configuration of each domain begins without state data, by version 0 of its schema
+-- the configuration of each domain has no state data at the opening, by version 0 of its schema
 abbrev pub BeginWithoutState : List Domain → Type 0
 BeginWithoutState world = (number : ℕ) (d : Domain) → slice_get world number ≡ Some d → IsTrue (is_config d.table d.opening.config)
 
--- Operations that are lawful over a base, which need not be closed, leave no state data in a configuration that has none: whether they are applied to
--- the base or to another tree.
+-- Operations that are lawful over a base, which need not be closed, add no state data to a configuration without any: applied to the
+-- base or to another tree.
 abbrev pub WritesLeaveNoState : Type 0
 WritesLeaveNoState =
     (table : SchemaTable) (base : Store → List Row) (tree : List Row) (ops : List Op) → IsTrue (is_config table tree) → AreLawful table base [] ops

@@ -1,4 +1,4 @@
-//! The cell at a path, searched by halves.
+//! The cell at a path, by binary search.
 ghost use Rattle.std.specs.Prelude.{◌≡◌, ◌++◌, ◌∷◌, [], option_map};
 ghost use Rattle.sal_types.specs.declared.value.Step.TheVariants.{Node};
 ghost use Rattle.sal_types.specs.Order.{path_cmp};
@@ -27,7 +27,7 @@ fn order(path: &[Step], front: &[Step], leaf: u32) -> Ordering
 }
 
 /// The cell of the row at these steps.
-pub(crate) fn cell_at<'r>(rows: &'r [Row], steps: &[Step]) -> Option<&'r Cell>
+pub fn cell_at<'r>(rows: &'r [Row], steps: &[Step]) -> Option<&'r Cell>
     requires { IsAscending rows.now }
     ensures { option_map (λ c. c.now) result ≡ cell rows.now steps.now }
 {

@@ -4,7 +4,7 @@ ghost use Rattle.sal_schema.specs.Paths.{node_of};
 
 use sal_types::Step;
 
-/// The node that these steps of a path name: the list for each of its entries.
+/// The node of these steps of a path: the list for each of its entries.
 pub(crate) fn node_at_end(steps: &[Step]) -> Option<u32>
     ensures { result ≡ node_of steps.now }
 {

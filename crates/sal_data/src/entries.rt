@@ -15,7 +15,7 @@ use sal_types::{Cell, Duplicate, NoMemory, Path, PathFault, Row, Seq, Step, Valu
 use serde_json::{Map, Value as Json};
 use std::alloc::Global;
 
-/// The path with these steps, without room for more than its steps and few others.
+/// The path with these steps, with a capacity that is little more than its steps.
 pub(crate) fn path_of(alloc: Global, steps: &[Step]) -> Result<Path, NoMemory>
     requires { length steps.now ≤ 32 }
     ensures { IfOk result (λ path. path ≡ steps.now) }
@@ -31,7 +31,7 @@ pub(crate) fn path_of(alloc: Global, steps: &[Step]) -> Result<Path, NoMemory>
     Ok(path)
 }
 
-/// The path one step further down. A copy with one more pushed would have twice the room that it needs.
+/// The path with one more step. A copy with one more pushed would have twice the capacity that it needs.
 pub(crate) fn longer(alloc: Global, path: &Path, step: Step) -> Result<Path, DataFault>
     ensures { GivesUnless DataFault.NoMemory (λ below. below) result (spec.longer path.now step) }
 {
@@ -67,7 +67,7 @@ fn longer_by(alloc: Global, path: &Path, step: &Step) -> Result<Path, DataFault>
     longer(alloc, path, step.copy()?)
 }
 
-/// The path of the entry, which is none of those that were seen, and is one of them from now on.
+/// The path of the entry, which must not be among those seen; it then is.
 pub(crate) fn entered(
     alloc: Global,
     path: &Path,
@@ -139,7 +139,7 @@ impl<'a> Reader<'a> {
         Ok(Step::Item(value))
     }
 
-    /// Appends the entries of the leaf-list at the path, of which some were seen before these.
+    /// Appends the entries of the leaf-list at the path; `seen` has the entries before these.
     pub(crate) fn items_rows(
         &self,
         node: u32,

@@ -18,7 +18,7 @@ pub fn trees_read()
     ensures of_none { example.reads (example.rack "slot" (array no_items)) ≡ Ok [] }
 {}
 
-/// Rows are written as their tree, and those of a part as the value at its path. A call does nothing: its clauses are the laws.
+/// Rows are written as their tree, and those of a subtree as the value at its path. A call does nothing: its clauses are the laws.
 pub fn trees_written()
     ensures whole { example.writes example.tree_rows ≡ example.tree }
     ensures entry { example.writes_at (example.at_slot 1 "l") example.slot_rows ≡ example.slot_with_site }
@@ -26,7 +26,7 @@ pub fn trees_written()
     ensures of_none { example.writes [] ≡ example.nothing }
 {}
 
-/// Faults of names: those at the top and of another module want their module, and no other has one. A call does nothing: its
+/// Faults of names: those at the top and of another module require their module, and no other may have one. A call does nothing: its
 /// clauses are the laws.
 pub fn faults_of_names()
     ensures at_top { example.reads (example.only "rack" example.nothing) ≡ example.fails (NeedsModule [] (codes "rack")) }
@@ -56,7 +56,7 @@ pub fn faults_of_values()
     ensures deep { example.reads_deep (example.only "c" example.nothing) ≡ example.fails (TooDeep (example.down 32 0)) }
 {}
 
-/// The table is that of a schema, and its tree is whole, so the laws speak of it. A call does nothing: its clauses are the laws.
+/// The table is that of a schema, and its tree is whole, so the laws apply to it. A call does nothing: its clauses are the laws.
 pub fn trees_are_whole()
     ensures of_a_schema { IsTable example.table }
     ensures whole { IsWhole example.table [] example.tree_rows }

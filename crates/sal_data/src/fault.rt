@@ -9,13 +9,13 @@ use thiserror::Error;
 /// Why a JSON value denotes no rows of a schema.
 ///
 /// `path` is the place: of the object for the faults of a member's name, of the list for those of keys, and of the entry or
-/// node itself for the others. It has numbers of nodes; `path_text` of `sal_pathtext` writes it with their names.
+/// node itself for the others. Its nodes are numbers; `write_path` of `sal_pathtext` writes it with their names.
 #[derive(Debug, Drop, Error)]
 pub enum DataFault {
     /// No child of the node at the path has this name in the right form.
     #[error("unknown member `{}`", .name.as_str())]
     UnknownMember { path: Path, name: Str },
-    /// The name is written without its module, and is at the top or that of a child of another module.
+    /// The name has no module, and is at the top or that of a child of another module.
     #[error("the member `{}` needs the name of its module", .name.as_str())]
     NeedsModule { path: Path, name: Str },
     /// A JSON value other than an object or an array where one of these is required.
@@ -24,7 +24,7 @@ pub enum DataFault {
     /// An entry of the list at the path lacks a key.
     #[error("a list entry lacks a key")]
     MissingKey { path: Path },
-    /// The entry has another key or value than that of the path that it was read at.
+    /// The entry has another key or value than that of the path at which it is read.
     #[error("the key is another one than in the path")]
     KeyDiffers { path: Path },
     /// An earlier entry of the list or leaf-list has the same key or value.

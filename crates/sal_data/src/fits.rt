@@ -70,7 +70,7 @@ fn has_keys(schema: &Schema, rows: &[Row], steps: &[Step], step: &Step) -> bool
 }
 
 /// Whether an entry or presence container at these steps has its row, and an entry its key leafs.
-fn is_whole_at(schema: &Schema, rows: &[Row], steps: &[Step]) -> bool
+pub fn is_whole_at(schema: &Schema, rows: &[Row], steps: &[Step]) -> bool
     requires { IsAscending rows.now }
     ensures { result ≡ spec.is_whole_at schema.now rows.now steps.now }
 {
@@ -97,8 +97,8 @@ fn is_whole_from(schema: &Schema, rows: &[Row], from: &Path, steps: &[Step]) -> 
     !begins_with(steps, from) || is_whole_at(schema, rows, steps)
 }
 
-/// How many steps two paths begin with alike.
-fn shared(before: &[Step], steps: &[Step]) -> usize
+/// The number of common first steps of two paths.
+pub fn shared(before: &[Step], steps: &[Step]) -> usize
     ensures count { result ≡ common_prefix_len same_step before.now steps.now }
     ensures within { result ≤ length before.now }
 {
@@ -117,7 +117,7 @@ fn shared(before: &[Step], steps: &[Step]) -> usize
     }
 }
 
-/// Whether each entry and presence container above a row is whole, from the path `from` down, where those above the row
+/// Whether each entry and presence container above a row is whole, from the path `from` down, if those above the row
 /// `before` are.
 fn is_whole_above(
     schema: &Schema,
@@ -139,7 +139,7 @@ fn is_whole_above(
     true
 }
 
-/// Whether the row lies at the path or below it, fits there, and has what it needs above it, where the row `before` has.
+/// Whether the row is at or below the path, fits there, and has what it requires above it, if the row `before` has.
 fn row_fits(schema: &Schema, path: &Path, rows: &[Row], before: &[Step], row: &Row) -> bool
     requires rising { IsAscending rows.now }
     requires whole { spec.is_whole_above schema.now rows.now path.now before.now ≡ true }

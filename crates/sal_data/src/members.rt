@@ -1,4 +1,4 @@
-//! The nodes that the names of members mean, and the members that nodes have.
+//! The nodes of members' names, and the members of nodes.
 ghost use Rattle.std.specs.Prelude.{◌≡◌, ◌<◌, Some, length, is_some, option_map, option_and_then, IfOk, string_bytes};
 ghost use Rattle.serde_json.specs.View.{view, members_view};
 ghost use Rattle.serde_json.specs.Find.{get_member};
@@ -94,7 +94,7 @@ fn is_of_some_module(schema: &Schema, parent: Option<u32>, name: &str) -> bool
     }
 }
 
-/// Why the name means no member of the object at the path.
+/// Why the name is not a member of the object at the path.
 fn name_fault(
     alloc: Global,
     schema: &Schema,

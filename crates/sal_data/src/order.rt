@@ -10,7 +10,7 @@ use sal_types::{Cell, NoMemory, Path, Row};
 use std::alloc::Global;
 use std::collections::BTreeMap;
 
-/// Whether the paths of the rows rise.
+/// Whether the paths of the rows ascend.
 fn rises(rows: &[Row]) -> bool
     ensures { IsTrue result → IsAscending rows.now }
 {
@@ -33,7 +33,7 @@ fn tree_of(rows: Vec<Row>) -> Rows
     }
 }
 
-/// Puts the row in its place, over one with its path.
+/// Inserts the row, or replaces the one with its path.
 fn put(map: &mut BTreeMap<Path, Cell>, row: Row) -> Result<(), NoMemory>
     ensures { OnOk result (map.new.entries ≡ insert_entry path_cmp map.old.entries row.path row.cell) }
 {
@@ -41,7 +41,7 @@ fn put(map: &mut BTreeMap<Path, Cell>, row: Row) -> Result<(), NoMemory>
     Ok(())
 }
 
-/// The cells by their paths, where of rows with one path the last counts.
+/// The cells by their paths; of rows with one path the last is used.
 fn by_path(alloc: Global, rows: Vec<Row>) -> Result<BTreeMap<Path, Cell>, NoMemory>
     ensures { IfOk result (λ map. map.entries ≡ entries (spec.in_order rows.items)) }
 {
@@ -63,7 +63,7 @@ fn listed(alloc: Global, map: BTreeMap<Path, Cell>) -> Result<Vec<Row>, NoMemory
     Ok(list)
 }
 
-/// The tree that rows in any order make.
+/// The tree of rows in any order.
 fn joined(alloc: Global, rows: Vec<Row>) -> Result<Rows, NoMemory>
     ensures { IfOk result (λ ordered. ordered ≡ spec.in_order rows.items) }
 {
@@ -75,7 +75,7 @@ fn joined(alloc: Global, rows: Vec<Row>) -> Result<Rows, NoMemory>
     }
 }
 
-/// The rows in the order of their paths, where of rows with one path the last counts. Rows that rise stay as they are; for others
+/// The rows in the order of their paths; of rows with one path the last is used. Rows in ascending order stay as they are; for others
 /// it takes n log n comparisons of paths.
 pub(crate) fn in_order(alloc: Global, rows: Vec<Row>) -> Result<Rows, NoMemory>
     ensures { IfOk result (λ ordered. ordered ≡ spec.in_order rows.items) }

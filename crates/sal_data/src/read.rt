@@ -25,7 +25,7 @@ fn before_last(alloc: Global, path: &Path) -> Result<Path, NoMemory>
     path_of(alloc, &steps[..steps.len().saturating_sub(1)])
 }
 
-/// Whether the step is the one that was asked for.
+/// Whether the step is the requested one.
 fn is_asked(asked: &Step, step: Step) -> bool
     ensures { result ≡ spec.same_step step asked.now }
 {
@@ -107,8 +107,8 @@ impl<'a> Reader<'a> {
 
 /// The rows that a JSON value at a path denotes, in the order of their paths, or its first fault.
 ///
-/// It takes time linear in the JSON value and n log n comparisons of paths for n rows, beside a search by halves for each name
-/// and each entry, and what `read_scalar` takes for each value.
+/// It takes time linear in the JSON value and n log n comparisons of paths for n rows, a binary search for each name
+/// and each entry, and the time of `read_scalar` for each value.
 pub fn read_data(
     alloc: Global,
     schema: &Schema,

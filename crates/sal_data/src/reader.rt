@@ -1,4 +1,4 @@
-//! What JSON values are read by, and the values of leafs.
+//! The input for reading JSON values, and the values of leafs.
 ghost use Rattle.std.specs.Prelude.{◌≡◌};
 ghost use Rattle.serde_json.specs.View.{view};
 ghost use Rattle.sal_types.specs.Reading.{GivesUnless};
@@ -13,7 +13,7 @@ use sal_types::{Duplicate, NoMemory, Path, Value};
 use serde_json::Value as Json;
 use std::alloc::Global;
 
-/// What JSON values are read by: a schema and its patterns.
+/// The input for reading JSON values: a schema and its patterns.
 #[derive(Drop)]
 pub(crate) struct Reader<'a> {
     pub(crate) alloc: Global,
@@ -47,7 +47,7 @@ impl<'a> Reader<'a> {
         read_scalar(self.alloc, self.schema, self.patterns, ty, module, json)
     }
 
-    /// The value of the type of a leaf or leaf-list, where its faults are those of this path.
+    /// The value of the type of a leaf or leaf-list; its faults are those of this path.
     pub(crate) fn value_at(&self, path: &Path, node: u32, json: &Json) -> Result<Value, DataFault>
         ensures { GivesUnless DataFault.NoMemory (λ value. value) result (spec.at_path path.now (spec.node_scalar self.now.schema.now node (view json.now))) }
     {

@@ -1,4 +1,4 @@
-//! Rows in runs, each with another next step than the one before it.
+//! Rows in runs of equal next steps.
 ghost use Rattle.std.specs.Prelude.{◌≡◌, ◌<◌, ◌≤◌, ◌∷◌, not, length, option_map};
 ghost use Rattle.std.specs.List.{position_or_len, prefix_len};
 ghost use Rattle.sal_types.specs.Prefix.{is_prefix};
@@ -55,7 +55,7 @@ pub(crate) fn first_run(rows: &[Row], k: usize) -> (&[Row], &[Row])
     rows.split_at(len)
 }
 
-/// The place of the first row at the path or below it, or how many rows there are.
+/// The index of the first row at the path or below it, or the number of rows.
 fn first_under(rows: &[Row], path: &Path) -> usize
     ensures place { result ≡ position_or_len (λ row. is_prefix path.now row.path) rows.now }
     ensures within { result ≤ length rows.now }

@@ -10,7 +10,7 @@ use std::alloc::Global;
 use std::collections::BTreeSet;
 use std::marker::Model;
 
-/// The steps to entries that were seen. As long as each is greater than the one before it they are in a list, else in a set.
+/// The steps to entries that were seen. As long as they ascend they are in a list, else in a set.
 #[derive(Drop)]
 pub(crate) struct Seen {
     rising: Vec<Step>,
@@ -39,7 +39,7 @@ fn is_past(rising: &[Step], step: &Step) -> bool
     }
 }
 
-/// Puts the step into the set, and answers whether it was none of it.
+/// Adds the step to the set, and returns whether it was new.
 fn put(others: &mut BTreeSet<Step>, step: Step) -> Result<bool, NoMemory>
     ensures new { IfOk result (λ is_new. is_new ≡ not (list_any (same_step step) others.old.keys)) }
     ensures more { OnOk result (HaveSame others.new.keys (step ∷ others.old.keys)) }
@@ -59,7 +59,7 @@ fn put_all(others: &mut BTreeSet<Step>, steps: Vec<Step>) -> Result<(), NoMemory
 }
 
 impl Seen {
-    /// None yet.
+    /// No steps.
     pub(crate) fn new(alloc: Global) -> Self
         ensures { result ≡ [] }
     {
@@ -69,7 +69,7 @@ impl Seen {
         }
     }
 
-    /// Adds the step, and answers whether it was not seen before.
+    /// Adds the step, and returns whether it was new.
     pub(crate) fn add(&mut self, alloc: Global, step: Step) -> Result<bool, NoMemory>
         ensures new { IfOk result (λ is_new. is_new ≡ not (list_any (same_step step) self.old)) }
         ensures more { OnOk result (HaveSame self.new (step ∷ self.old)) }

@@ -154,7 +154,7 @@ impl<'a> Reader<'a> {
         self.node_rows(node, below, json, out)
     }
 
-    /// Appends the entries of the list at the path, of which some were seen before these.
+    /// Appends the entries of the list at the path; `seen` has the entries before these.
     #[cycle(walk)]
     fn entries_rows(
         &self,

@@ -17,7 +17,7 @@ use sal_types::{Cell, NoMemory, Path, Row, Step, Value};
 use serde_json::{Map, Value as Json};
 use std::alloc::Global;
 
-/// How many nodes rows are deep at most: a path has at most 32 steps.
+/// The largest number of levels of nodes: a path has at most 32 steps.
 const MAX_LEVELS: u32 = 32;
 
 /// The JSON value of a value of a leaf, or of an entry of a leaf-list; null for a node that is neither.
@@ -38,9 +38,9 @@ pub fn write_leaf(
     }
 }
 
-/// What rows are written by: a schema.
+/// The input for writing rows: a schema.
 ///
-/// Below, `k` is how many steps lead to a place, and `levels` how many nodes deep rows are below it at most.
+/// Below, `k` is the number of steps to a place, and `levels` the largest number of levels of nodes below it.
 #[derive(Drop)]
 struct Writer<'a> {
     alloc: Global,
@@ -61,7 +61,7 @@ impl<'a> Writer<'a> {
         }
     }
 
-    /// One item more: the value of an entry of a leaf-list.
+    /// One more item: the value of an entry of a leaf-list.
     fn push_item(
         &self,
         items: &mut Vec<Json>,
@@ -174,7 +174,7 @@ impl<'a> Writer<'a> {
         Ok(Json::Array(entries))
     }
 
-    /// One item more: the value of an entry of a list.
+    /// One more item: the value of an entry of a list.
     #[cycle(tree)]
     fn push_entry(
         &self,
@@ -224,8 +224,8 @@ impl<'a> Writer<'a> {
 /// The JSON value of the rows at the path and below it (RFC 7951 sections 4 to 6).
 ///
 /// At the root it is the top object, at a node the value of its member, and at an entry of a list or leaf-list the item. It
-/// takes time linear in the rows and the steps of their paths, beside what their values and the members' names cost. The other
-/// rows of the tree are passed over.
+/// takes time linear in the rows and the steps of their paths, and the cost of their values and the members' names. The other
+/// rows of the tree are skipped.
 pub fn write_data(
     alloc: Global,
     schema: &Schema,

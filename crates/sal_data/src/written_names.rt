@@ -11,7 +11,7 @@ use sal_types::NoMemory;
 use serde_json::{Map, Value as Json};
 use std::alloc::Global;
 
-/// One member more: the value of the node, below a parent or in the top object.
+/// One more member: the value of the node, below a parent or in the top object.
 pub(crate) fn put_member(
     members: &mut Map<String, Json>,
     alloc: Global,

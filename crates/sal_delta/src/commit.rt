@@ -24,7 +24,7 @@ pub struct StoreCommit<'a> {
 }
 
 /// The changes of a commit at the path and below it: those that `changes` finds, without a look at lists that the
-/// operations leave alone.
+/// operations do not touch.
 pub fn changes_by(alloc: Global, commit: &StoreCommit, path: &Path) -> Result<ChangeList, NoMemory>
     requires agree { Agree commit.now.before.now commit.now.after.now }
     requires made { rows_of commit.now.after.now ≡ apply_ops (rows_of commit.now.before.now) commit.now.store commit.now.ops.now }
@@ -41,7 +41,7 @@ pub fn changes_by(alloc: Global, commit: &StoreCommit, path: &Path) -> Result<Ch
     Ok(Seq::from_items(list))
 }
 
-// What the operations of the store find, one after another.
+// The changes that the operations of the store lead to, one after another.
 fn gathered(alloc: Global, commit: &StoreCommit, path: &Path) -> Result<Vec<Change>, NoMemory>
     requires { Agree commit.now.before.now commit.now.after.now }
     ensures { IfOk result (λ v. v.items ≡ found_by_all (rows_of commit.now.before.now) (rows_of commit.now.after.now) commit.now.store path.now commit.now.ops.now) }
@@ -53,7 +53,7 @@ fn gathered(alloc: Global, commit: &StoreCommit, path: &Path) -> Result<Vec<Chan
     Ok(list)
 }
 
-// Puts what an operation finds at the end, if it is of the store.
+// Appends the changes of an operation, if it is of the store.
 fn add_of_op(
     into: &mut Vec<Change>,
     commit: &StoreCommit,
@@ -70,7 +70,7 @@ fn add_of_op(
     }
 }
 
-// Puts what an operation of the store finds at the end.
+// Appends the changes of an operation of the store.
 fn add_by(
     into: &mut Vec<Change>,
     commit: &StoreCommit,
@@ -88,7 +88,7 @@ fn add_by(
     }
 }
 
-// Puts the changes that lie both at or below the path `top` and at or below `path` at the end.
+// Appends the changes that are both at or below the path `top` and at or below `path`.
 fn add_below(
     into: &mut Vec<Change>,
     commit: &StoreCommit,
@@ -107,7 +107,7 @@ fn add_below(
     }
 }
 
-// Puts the changes at the paths of the rows that lie at or below the path at the end.
+// Appends the changes at the paths of those rows that are at or below the path.
 fn add_at_rows(
     into: &mut Vec<Change>,
     commit: &StoreCommit,
@@ -122,7 +122,7 @@ fn add_at_rows(
     Ok(())
 }
 
-// Puts the change at the path of a row at the end, if that lies at or below the path.
+// Appends the change at the path of a row, if that is at or below the path.
 fn add_of_row(
     into: &mut Vec<Change>,
     commit: &StoreCommit,
@@ -138,7 +138,7 @@ fn add_of_row(
     }
 }
 
-// Puts the change at the path itself at the end, if the cells differ there.
+// Appends the change at the path itself, if the cells differ there.
 fn add_at(into: &mut Vec<Change>, commit: &StoreCommit, path: &Path) -> Result<(), NoMemory>
     ensures { OnOk result (into.new.items ≡ into.old.items ++ found_at (rows_of commit.now.before.now) (rows_of commit.now.after.now) path.now) }
 {

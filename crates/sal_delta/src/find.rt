@@ -13,7 +13,7 @@ use sal_tree::{Root, is_alike};
 use sal_types::{NoMemory, Path, Seq};
 use std::alloc::Global;
 
-/// The paths at the path given and below it at which two trees have different cells, in path order, each with both cells.
+/// The paths at and below the given one at which two trees have different cells, in path order, each with both cells.
 ///
 /// Two nodes at one path with one stamp must be the same, as they are in trees of one history.
 pub fn changes(
@@ -34,7 +34,7 @@ pub fn changes(
     Ok(Seq::from_items(list))
 }
 
-/// Puts the changes at the path and below it at the end.
+/// Appends the changes at the path and below it.
 pub(crate) fn add_changes(
     into: &mut Vec<Change>,
     before: &Root,

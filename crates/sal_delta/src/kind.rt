@@ -16,7 +16,7 @@ use std::sync::Arc;
 
 /// How the node at the path changed, by the changes there. It takes no memory.
 ///
-/// `own` says whether the node has a row of its own by its kind.
+/// `own` says whether the node has its own row by its kind.
 pub fn kind_at(
     list: &ChangeList,
     path: &Path,

@@ -3,11 +3,11 @@
 //! | call or type | what it is |
 //! |---|---|
 //! | `changes` | the paths at which two trees differ, each with both cells, in path order |
-//! | `changes_by`, `StoreCommit` | the same of a commit, found by its operations |
+//! | `changes_by`, `StoreCommit` | the same for a commit, found by its operations |
 //! | `kind_at` | how the node at the path itself changed |
-//! | `Change`, `ChangeList`, `CandidateKind` | of `sal_rows`, whose specs say what changes and kinds are |
+//! | `Change`, `ChangeList`, `CandidateKind` | of `sal_rows`, whose specs define changes and kinds |
 //!
-//! Both calls ask that nodes of one path and one stamp are the same in the two trees, as a commit with new stamps keeps it
+//! Both calls require that nodes of one path and one stamp are equal in the two trees, as they are after a commit with new stamps
 //! (`laws::a_commit_agrees`).
 //!
 //! ```
@@ -17,9 +17,9 @@
 //!
 //! | call | cost |
 //! |---|---|
-//! | both, where nothing changed at the path or below it | two searches for the path, no memory |
-//! | `changes` | a look at the stamps of all children of each node that changed, from the path on; nodes that did not are not looked into |
-//! | `changes_by` | two searches for each row of a merge, and for each put and delete what `changes` takes at its path; then n log n comparisons of the paths that were found |
+//! | both, if nothing changed at or below the path | two searches for the path, no memory |
+//! | `changes` | the stamps of all children of each changed node, from the path on; other nodes are skipped |
+//! | `changes_by` | two searches for each row of a merge; for each put and delete `changes` at its path; n log n comparisons of the paths found |
 //! | `kind_at` | two searches, no memory |
 #![tactic(auto)]
 

@@ -15,7 +15,7 @@ use sal_tree::longer;
 use sal_types::{Cell, Duplicate, NoMemory, Path};
 use std::sync::Arc;
 
-/// Puts the changes between two nodes at the path, and below them, at the end.
+/// Appends the changes between two nodes at the path, and below them.
 pub(crate) fn walk(
     into: &mut Vec<Change>,
     path: &Path,
@@ -36,7 +36,7 @@ pub(crate) fn walk(
     Ok(())
 }
 
-/// Puts the change of the cells at the path at the end, if they differ.
+/// Appends the change of the cells at the path, if they differ.
 pub(crate) fn note_cells(
     into: &mut Vec<Change>,
     path: &Path,

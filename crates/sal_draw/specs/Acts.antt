@@ -1,5 +1,5 @@
--- What an entry shows beside its texts: the pins that it sets, and what it is joined to.
-use Rattle.std.specs.Prelude.{ℕ, ◌+◌, ◌-◌, List, [], ◌∷◌, ◌++◌, map, Option, None, Some, slice_index, slice_index_or, if◌then◌else◌, max}
+-- What an entry shows in addition to its texts: the pins that it sets, and its lines.
+use Rattle.std.specs.Prelude.{ℕ, ◌+◌, ◌-◌, List, [], ◌∷◌, ◌++◌, map, Option, None, Some, slice_index_or, unwrap_or, if◌then◌else◌, max}
 use Rattle.std.specs.List.{flat_map, range_with_len}
 use Rattle.sal_rows.specs.declared.batch.Part.{Part}
 use Rattle.sal_rows.specs.declared.outcome.CallFault.{CallFault}
@@ -11,6 +11,7 @@ use Rattle.sal_history.specs.declared.call.Call.TheVariants as call
 use Rattle.sal_history.specs.declared.reply.Reply.{Reply}
 use Rattle.sal_history.specs.declared.reply.Reply.TheVariants as reply
 use Rattle.sal_history.specs.History.{opened_chain}
+use Rattle.sal_history.specs.Numbered.{numbered}
 use Rattle.sal_draw.specs.declared.acts.Track.{Track as CodeTrack}
 use Rattle.sal_shapes.specs.declared.scene.Act.{Act}
 use Rattle.sal_shapes.specs.declared.scene.Act.TheVariants.{Joins, Sets, Spans}
@@ -21,7 +22,7 @@ use Rattle.sal_shapes.specs.declared.scene.Style.TheVariants.{Chained, Clash, Fa
 
 -- ---- by the reply
 
--- An outcome that is told: a line from the commit that it made or that its conflict names, from the submission by which its chain
+-- An outcome in a reply: a line from the commit that it made or that its conflict names, from the submission with which its chain
 -- failed, or from the end of its domain.
 abbrev pub outcome_acts : ℕ → Outcome → List Act
 outcome_acts domain (Done commit) = Joins Told (Commit domain commit) ∷ []
@@ -30,7 +31,7 @@ outcome_acts domain (Invalid store path rule) = []
 outcome_acts domain (ChainFailed receipt) = Joins Fails (Receipt receipt) ∷ []
 outcome_acts domain (Unmounted gone) = Joins Fails (Gone gone) ∷ []
 
--- on which a transaction stands: a commit, or a pending submission of its chain
+-- the base of a transaction: a commit, or a pending submission of its chain
 abbrev pub base_pin : ℕ → ℕ → Option ℕ → Pin
 base_pin domain commit None = Commit domain commit
 base_pin domain commit (Some receipt) = Receipt receipt
@@ -39,7 +40,7 @@ base_pin domain commit (Some receipt) = Receipt receipt
 abbrev pub begun_acts : List ℕ → Call → ℕ → Option ℕ → List Act
 begun_acts chains (call.Begin domain mode) commit on = Joins Stands (base_pin domain commit on) ∷ []
 begun_acts chains (call.ChainBegin chain mode) commit on =
-    Joins Chained (Chain chain) ∷ Sets (Chain chain) ∷ Joins Stands (base_pin (slice_index chains (chain - 1)) commit on) ∷ []
+    Joins Chained (Chain chain) ∷ Sets (Chain chain) ∷ Joins Stands (base_pin (unwrap_or (numbered chains chain) 0) commit on) ∷ []
 begun_acts chains c commit on = []
 
 -- a submission with this receipt
@@ -93,14 +94,14 @@ reply_acts chains c reply.Found = found_acts c
 reply_acts chains c reply.Late = []
 reply_acts chains c (reply.Refused fault) = refused_acts fault
 
--- ---- what was decided
+-- ---- decisions
 
--- the receipt that is settled
+-- the receipt that the call settles
 abbrev pub settled_receipt : Call → ℕ
 settled_receipt (call.Settle receipt) = receipt
 settled_receipt c = 0
 
--- up to which receipt all are decided, where they were up to this one before
+-- the receipt up to which all are decided after the call
 abbrev pub decided_upto : Call → Reply → ℕ → ℕ
 decided_upto c (reply.Settled domain outcome) before = max before (settled_receipt c)
 decided_upto c (reply.Decided receipt domain outcome) before = max before receipt
@@ -111,13 +112,13 @@ abbrev pub made_acts : Option Made → List Act
 made_acts None = []
 made_acts (Some m) = Sets (Commit m.domain m.number) ∷ Joins Makes (Commit m.domain m.number) ∷ []
 
--- the commits that the receipts behind this one made, up to the other; `made` tells them by receipt, from 0 on
+-- the commits of the receipts after `before`, up to `upto`; `made` has them by receipt, from 0 on
 abbrev pub decided_acts : (ℕ → Option Made) → ℕ → ℕ → List Act
 decided_acts made before upto = flat_map made_acts (map made (range_with_len before (upto - before)))
 
 -- ---- along a log
 
--- what is known of the entries before: up to which receipt all are decided, and the domain of each chain
+-- the state after some entries: the receipt up to which all are decided, and the domain of each chain
 pub record Track : Type 0 where
   pub decided : ℕ
   pub chains : List ℕ
@@ -133,7 +134,7 @@ option_list (Some x) = x ∷ []
 abbrev pub track_after : Track → Call → Reply → Track
 track_after t c r = record { decided = decided_upto c r t.decided; chains = t.chains ++ option_list (opened_chain c r) }
 
--- what the entry at this place shows
+-- what the entry at this index shows
 abbrev pub entry_acts : (ℕ → Option Made) → Track → ℕ → Call → Reply → List Act
 entry_acts made t place c r = Sets (Entry place) ∷ (decided_acts made t.decided (decided_upto c r t.decided) ++ reply_acts t.chains c r)
 

@@ -6,7 +6,7 @@ use Rattle.sal_history.specs.Submissions.{is_done}
 use Rattle.sal_shapes.specs.declared.scene.Style.{Style}
 use Rattle.sal_shapes.specs.declared.scene.Style.TheVariants.{Refused, Shared}
 
--- a call that was refused, or tells of a submission that was not done
+-- a call that was refused, or whose reply is an outcome other than done
 abbrev pub call_style : Reply → Style
 call_style (reply.Refused fault) = Refused
 call_style (reply.Settled domain outcome) = if is_done outcome then Shared else Refused

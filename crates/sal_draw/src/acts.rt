@@ -1,6 +1,7 @@
-//! What an entry shows beside its texts. Each function adds behind the acts that stand there.
-ghost use Rattle.std.specs.Prelude.{◌≡◌, ◌+◌, ◌-◌, ◌++◌, ◌∷◌, [], ℕ, None, IfOk, OnOk, map, slice_index, slice_index_or};
+//! What an entry shows in addition to its texts. Each function appends to `acts`.
+ghost use Rattle.std.specs.Prelude.{◌≡◌, ◌+◌, ◌-◌, ◌++◌, ◌∷◌, [], ℕ, None, IfOk, OnOk, map, slice_index_or, unwrap_or};
 ghost use Rattle.std.specs.List.{flat_map};
+ghost use Rattle.sal_history.specs.Numbered.{numbered};
 ghost use Rattle.sal_draw.specs.Acts as spec;
 ghost use Rattle.sal_shapes.specs.declared.scene.Made.{Made as Maker};
 
@@ -61,11 +62,14 @@ fn base_pin(domain: u32, commit: u64, on: Option<u64>) -> Pin
     }
 }
 
-// The domain of the chain.
+// The domain of the chain, or 0 if there is none.
 fn domain_of(chains: &[u32], chain: u64) -> u32
-    ensures { result ≡ slice_index chains.now (chain - 1) }
+    ensures { result ≡ unwrap_or (numbered chains.now chain) 0 }
 {
-    match chains.get(chain.saturating_sub(1) as usize) {
+    if chain == 0 {
+        return 0;
+    }
+    match chains.get(chain as usize - 1) {
         Some(domain) => *domain,
         None => 0,
     }
@@ -92,7 +96,7 @@ fn add_begun(acts: &mut Acts, chains: &[u32], call: &Call, on: Base) -> Result<(
     }
 }
 
-// On which commit, or pending receipt, a transaction stands.
+// The base of a transaction: a commit, or a pending receipt.
 #[derive(Clone, Copy)]
 pub struct Base {
     pub commit: u64,
@@ -200,9 +204,9 @@ fn add_reply(acts: &mut Acts, chains: &[u32], call: &Call, reply: &Reply) -> Res
     }
 }
 
-// ---- what was decided
+// ---- decisions
 
-// The receipt that is settled.
+// The receipt that the call settles.
 fn settled_receipt(call: &Call) -> u64
     ensures { result ≡ spec.settled_receipt call.now }
 {
@@ -212,7 +216,7 @@ fn settled_receipt(call: &Call) -> u64
     }
 }
 
-// Up to which receipt all are decided.
+// The receipt up to which all are decided.
 fn decided_upto(call: &Call, reply: &Reply, before: u64) -> u64
     ensures { result ≡ spec.decided_upto call.now reply.now before }
 {
@@ -245,7 +249,7 @@ fn made_at(made: &[Option<Made>], i: u64) -> Option<Made>
     }
 }
 
-// The commits that the receipts behind this one made, up to the other.
+// The commits of the receipts after this one, up to the other.
 fn add_decided(
     acts: &mut Acts,
     made: &[Option<Made>],
@@ -262,7 +266,7 @@ fn add_decided(
 
 // ---- along a log
 
-/// What is known of the entries before: up to which receipt all are decided, and the domain of each chain.
+/// The state after some entries: the receipt up to which all are decided, and the domain of each chain.
 #[derive(Drop)]
 pub struct Track {
     pub decided: u64,
@@ -270,7 +274,7 @@ pub struct Track {
 }
 
 impl Track {
-    /// No entry.
+    /// No entries.
     pub fn new(alloc: Global) -> Track
         ensures { spec.track_of result ≡ spec.new_track }
     {
@@ -280,7 +284,7 @@ impl Track {
         }
     }
 
-    /// What the entry at this place shows.
+    /// What the entry at this index shows.
     pub fn acts(
         &self,
         alloc: Global,
@@ -298,7 +302,7 @@ impl Track {
         Ok(acts)
     }
 
-    /// One entry more.
+    /// Adds one entry.
     pub fn note(&mut self, said: Said) -> Result<(), NoMemory>
         ensures { OnOk result (spec.track_of self.new ≡ spec.track_after (spec.track_of self.old) said.entry.call.now said.entry.reply.now) }
     {
@@ -312,7 +316,7 @@ impl Track {
     }
 }
 
-/// A shared call with its answer.
+/// A shared call with its reply.
 #[derive(Clone, Copy)]
 pub struct Said<'a> {
     pub call: &'a Call,

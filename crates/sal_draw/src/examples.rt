@@ -1,4 +1,4 @@
-//! Worked examples. Each function does nothing; its contract says what the definitions give, and the proof computes it.
+//! Worked examples. Each function does nothing; its contract states what the definitions give, and the proof computes it.
 ghost use Rattle.std.specs.Prelude.{◌≡◌, [], ◌∷◌, None, Some};
 ghost use Rattle.sal_types.specs.declared.value.Store.TheVariants.{Config};
 ghost use Rattle.sal_rows.specs.declared.outcome.ClashKind.TheVariants.{Changed};
@@ -11,13 +11,13 @@ ghost use Rattle.sal_shapes.specs.declared.scene.Pin.TheVariants as pin;
 ghost use Rattle.sal_shapes.specs.declared.scene.Style.TheVariants as style;
 ghost use Rattle.sal_draw.specs.Acts.{entry_acts, made_in, reply_acts};
 
-/// A conflict is joined to the commit that it names, and a failed chain to the submission by which it failed.
+/// A conflict has a line from the commit that it names, and a failed chain one from the submission with which it failed.
 pub fn refusals_are_joined()
     ensures conflict { reply_acts [] (call.Settle 2) (reply.Settled 1 (outcome.Conflict Config [] Changed 3)) ≡ Joins style.Clash (pin.Commit 1 3) ∷ [] }
     ensures chain { reply_acts [] (call.Settle 2) (reply.Settled 1 (outcome.ChainFailed 1)) ≡ Joins style.Fails (pin.Receipt 1) ∷ [] }
 {}
 
-/// A settle of receipt 2 decides receipt 1 too: both commits stand at its entry, and its own is told.
+/// A settle of receipt 2 decides receipt 1 too: both commits are at its entry, and its own has a line.
 pub fn a_settle_decides_those_before()
     ensures { entry_acts (made_in (Some (record { domain = 0; number = 1 }) ∷ Some (record { domain = 3; number = 7 }) ∷ [])) (record { decided = 0; chains = [] }) 5 (call.Settle 2) (reply.Settled 3 (outcome.Done 7))
         ≡ Sets (pin.Entry 5)
@@ -29,7 +29,7 @@ pub fn a_settle_decides_those_before()
         ∷ [] }
 {}
 
-/// A transaction of a chain stands on the chain's last submission while that is pending.
+/// A transaction of a chain has a line from the chain's last submission while that is pending.
 pub fn a_chain_is_joined()
     ensures { reply_acts (4 ∷ []) (call.ChainBegin 1 Rw) (reply.Begun 2 (Some 9))
         ≡ Joins style.Chained (pin.Chain 1) ∷ Sets (pin.Chain 1) ∷ Joins style.Stands (pin.Receipt 9) ∷ [] }

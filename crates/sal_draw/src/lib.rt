@@ -1,19 +1,19 @@
-//! What the clients of a log did to each other: what each entry of a log shows beside its texts.
+//! How the clients of a log affect each other: what each entry of a log shows in addition to its texts.
 //!
 //! | item | what it is |
 //! |---|---|
-//! | `Track`, `Said` | along a log, what each entry sets and what it is joined to (`Act` of `sal_shapes`) |
+//! | `Track`, `Said` | along a log, the pins and the lines of each entry (`Act` of `sal_shapes`) |
 //! | `call_style` | how a shared call looks |
 //!
-//! `specs/Acts` says what an entry shows: a point for each commit that it decided; lines to the commit on which a transaction stands, to the one that a
-//! conflict names, to those of a batch, from a request to the client that was handed it.
+//! `specs/Acts` defines what an entry shows: a point for each commit that it decided; lines from the base of a transaction, from the commit that a
+//! conflict names, from those of a batch, from a request to the client that took it.
 //!
 //! ```
 //! let acts = track.acts(alloc, &made, place, Said { call, reply })?;
 //! track.note(Said { call, reply })?;
 //! ```
 //!
-//! Cost: an entry costs what it shows.
+//! Cost: an entry costs time linear in what it shows.
 #![tactic(auto)]
 
 pub mod acts;

@@ -26,7 +26,7 @@ fn outcome_style(outcome: &Outcome) -> Style
     }
 }
 
-/// How a call with this answer is shown.
+/// The style of a call with this reply.
 pub fn call_style(reply: &Reply) -> Style
     ensures { result ≡ spec.call_style reply.now }
 {

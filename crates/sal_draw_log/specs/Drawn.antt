@@ -26,7 +26,7 @@ use Rattle.sal_retell.specs.declared.front.Footing.{Footing}
 use Rattle.sal_draw_log.specs.declared.scenes.Weave.{Weave as CodeWeave}
 use Rattle.sal_draw.specs.Acts.{track_of}
 
--- an entry with its answer, if that is shown
+-- an entry with its reply, if that is shown
 pub record Said : Type 0 where
   pub entry : Entry
   pub reply : Reply
@@ -36,7 +36,7 @@ said a = record { entry = a.entry; reply = told a.entry.call a.reply }
 
 -- ---- commits by receipt
 
--- the commit that an outcome tells, in the domain
+-- the commit of an outcome, in the domain
 abbrev pub made_by : ℕ → Outcome → Option Made
 made_by domain (Done commit) = Some (record { domain = domain; number = commit })
 made_by domain o = None
@@ -52,12 +52,12 @@ made_of answered = made_on (map sent_on (sents answered)) (outcomes answered)
 
 -- ---- rows
 
--- a call that is done and has no other answer, or whose answer is not shown
+-- a call that is done and has no other result, or whose reply is not shown
 abbrev pub says_ok : Call → Reply → Bool
 says_ok call Accepted = true
 says_ok call reply = not (is_told call)
 
--- the call, with its answer if that is shown
+-- the call, with its reply if that is shown
 abbrev pub title_with : Bool → List ℕ → List ℕ → List ℕ
 title_with shown text replied = if shown then title_text text replied else text
 
@@ -89,7 +89,7 @@ module _ (seats : List ℕ) (made : ℕ → Option Made) where
         hidden = false;
       }
 
-  -- one entry more
+  -- adds one entry
   abbrev pub weave : Weave → Said → Weave
   weave w s = record { track = track_after w.track s.entry.call s.reply; place = w.place + 1; rows = w.rows ++ row_of w.track w.place s ∷ [] }
 
@@ -122,7 +122,7 @@ scene_in made log saids =
       rows = (fold (weave (seats_of log) (made_in made)) new_weave saids).rows;
     }
 
--- what is drawn of a log over a world: a function of both, by what the log means
+-- the scene of a log over a world: a function of both, by the meaning of the log
 abbrev pub scene_of : List Domain → List Entry → Scene
 scene_of world log = scene_in (made_of (history world log)) log (map said (history world log))
 
@@ -135,7 +135,7 @@ log_text world log = svg_of (picture_of (scene_of world log))
 abbrev pub weave_of : CodeWeave → Weave
 weave_of w = record { track = track_of w.track; place = w.place; rows = w.rows.items }
 
--- an entry and its answer, one after the other
+-- an entry and its reply, one after the other
 abbrev pub saids_of : List Entry → List Reply → List Said
 saids_of [] rs = []
 saids_of (e ∷ es) [] = []

@@ -1,4 +1,4 @@
--- A shared call and its answer in words: the call's word and its numbers. Paths, values and operations are not shown.
+-- A shared call and its reply as text: the call's word and its numbers. Paths, values and operations are not shown.
 use Rattle.std.specs.Prelude.{ℕ, List, [], ◌++◌, Option, None, Some, codes, decimal}
 use Rattle.sal_types.specs.declared.value.Store.{Store}
 use Rattle.sal_types.specs.declared.value.Store.TheVariants.{Config, Oper}
@@ -27,7 +27,7 @@ abbrev pub store_text : Store → List ℕ
 store_text Config = codes " config"
 store_text Oper = codes " oper"
 
--- a call on data, mounts or marks: transactions by the place of the entry that began them, receipts, chains and listeners by their numbers
+-- a call on data, mounts or marks: transactions by the index of the entry that began them, receipts, chains and listeners by their numbers
 abbrev pub data_text : Call → List ℕ
 data_text (call.Begin domain mode) = one (codes "begin ") domain ++ mode_text mode
 data_text (call.OpenChain domain) = one (codes "open-chain ") domain
@@ -92,11 +92,11 @@ abbrev pub mount_text : Option ℕ → List ℕ
 mount_text None = codes "nothing"
 mount_text (Some domain) = one (codes "domain ") domain
 
--- the first receipt that was pending, with its outcome
+-- the first pending receipt, with its outcome
 abbrev pub decided_text : ℕ → Outcome → List ℕ
 decided_text receipt o = (one (codes "receipt ") receipt ++ codes ", ") ++ outcome_text o
 
--- an answer that is shown
+-- a reply that is shown
 abbrev pub answer_text : Reply → List ℕ
 answer_text (reply.Begun commit on) = base_text commit on
 answer_text (reply.Chain id) = one (codes "chain ") id

@@ -1,12 +1,12 @@
-//! The picture of a log: what the clients of a broker did to each other, for an application that plays no script.
+//! The picture of a log: how the clients of a broker affect each other, for an application without a script.
 //!
 //! | item | what it is |
 //! |---|---|
-//! | `draw_log` | the picture of a log with the outcomes of its submissions, as Scalable Vector Graphics: a lane for each seat, a row for each entry, a column for domain 0 and each one that was mounted |
+//! | `draw_log` | the picture of a log with its outcomes, as Scalable Vector Graphics: a lane for each seat, a row for each entry |
 //!
-//! A row has the call's word and its numbers, and its answer. `specs/Drawn` says what is shown: on what transactions, chains and submissions are based,
-//! each commit at the entry that decided it, each conflict's line to the commit that it names, mounts and marks. Paths, values, batches, and what the
-//! services answered are not shown; their entries have rows.
+//! A row has the call's word and its numbers, and its reply. `specs/Drawn` defines what is shown: the bases of transactions, chains and submissions,
+//! each commit at the entry that decided it, each conflict's line from the commit that it names, mounts and marks. Columns are for domain 0 and the
+//! mounted ones. Paths, values, batches, and the replies of services are not shown; their entries have rows.
 //!
 //! ```
 //! let text = draw_log(alloc, hub.domains().len() as u32, hub.log(), hub.outcomes())?;

@@ -1,4 +1,4 @@
-//! What is drawn of a log with its answers.
+//! The scene of a log with its replies.
 ghost use Rattle.std.specs.Prelude.{◌≡◌, ◌<◌, ◌^◌, ◌++◌, Some, false, IfOk, OnOk, map};
 ghost use Rattle.std.specs.List.{fold};
 ghost use Rattle.std.specs.Option.{option_to_list};
@@ -19,14 +19,14 @@ use std::alloc::Global;
 /// The greatest number of a lane.
 const MAX_LANE: usize = 4294967295;
 
-/// What a picture is drawn by: the seats that have lanes, and the commits by receipt, from 0 on.
+/// The seats that have lanes, and the commits by receipt, from 0 on.
 #[derive(Clone, Copy)]
 pub(crate) struct Ground<'a> {
     pub seats: &'a [u32],
     pub made: &'a [Option<Made>],
 }
 
-/// The picture so far: what is known of the entries above, how many these are, and the rows.
+/// The picture so far: the state after the entries above, their number, and the rows.
 #[derive(Drop)]
 pub struct Weave {
     pub track: Track,
@@ -61,7 +61,7 @@ pub(crate) fn made_on(
     Ok(made)
 }
 
-// The lane of a seat; more lanes than numbers want memory.
+// The lane of a seat. `NoMemory` if there are more lanes than numbers.
 fn lane_of(seats: &[u32], client: u32) -> Result<u32, NoMemory>
     ensures { IfOk result (λ lane. lane ≡ spec.lane_of seats.now client) }
 {
@@ -141,7 +141,7 @@ impl Weave {
         Ok(row_with(at, acts, texts))
     }
 
-    // One entry more.
+    // Adds one entry.
     fn weave(&mut self, ground: Ground, entry: &Entry, reply: &Reply) -> Result<(), NoMemory>
         requires { self.old.place < 2 ^ 63 }
         ensures { OnOk result (spec.weave_of self.new ≡ spec.weave ground.entry.seats.now (made_in ground.entry.made.now) (spec.weave_of self.old) (record { entry = entry.now; reply = reply.now })) }
@@ -246,7 +246,7 @@ fn rows_of(
     Ok(rows)
 }
 
-/// What is drawn of these entries with these answers, where these are the commits by receipt.
+/// The scene of these entries with these replies; `made` has the commits by receipt.
 pub(crate) fn scene_of(
     alloc: Global,
     made: &[Option<Made>],

@@ -1,4 +1,4 @@
-//! A call and its answer in words.
+//! A call and its reply as text.
 ghost use Rattle.std.specs.Prelude.{◌≡◌, ◌++◌, IfOk, OnOk, decimal, string_bytes};
 ghost use Rattle.sal_shapes.specs.Labels.{label_text};
 ghost use Rattle.sal_retell.specs.Told as retold;
@@ -165,7 +165,7 @@ fn push_mount(text: &mut String, mount: Option<u32>) -> Result<(), NoMemory>
     }
 }
 
-// The first receipt that was pending, and its outcome.
+// The first pending receipt, and its outcome.
 fn push_decided(text: &mut String, receipt: u64, outcome: &Outcome) -> Result<(), NoMemory>
     ensures { OnOk result (string_bytes text.new ≡ string_bytes text.old ++ spec.decided_text receipt outcome.now) }
 {
@@ -195,7 +195,7 @@ fn push_answer(text: &mut String, reply: &Reply) -> Result<(), NoMemory>
     }
 }
 
-// Whether the answer to the call is shown.
+// Whether the reply to the call is shown.
 fn is_told(call: &Call) -> bool
     ensures { result ≡ retold.is_told call.now }
 {

@@ -1,4 +1,4 @@
--- How a step of a script is shown.
+-- The label of a step of a script.
 use Rattle.std.specs.Prelude.{Bool, true, false}
 use Rattle.sal_history.specs.declared.reply.Reply.TheVariants.{Accepted}
 use Rattle.sal_script.specs.declared.reply.StepReply.{StepReply}
@@ -7,7 +7,7 @@ use Rattle.sal_shapes.specs.declared.scene.Style.{Style}
 use Rattle.sal_shapes.specs.declared.scene.Style.TheVariants.{Local, Refused}
 use Rattle.sal_draw.specs.Looks.{call_style}
 
--- a step that is done and has nothing more to tell
+-- a step that is done, whose reply has nothing else
 abbrev pub says_ok : StepReply → Bool
 says_ok (step_reply.Called Accepted) = true
 says_ok step_reply.Accepted = true

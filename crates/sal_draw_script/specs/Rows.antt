@@ -1,4 +1,4 @@
--- The rows of a played script: its entries in the order of the log, and above each the local steps that its client answered on the way.
+-- The rows of a played script: its entries in the order of the log, and above each the local steps that its client did before.
 use Rattle.std.specs.Prelude.{ℕ, ◌+◌, Bool, true, false, not, List, [], ◌∷◌, ◌++◌, length, map, take, drop, Option, None, Some, codes, decimal, if◌then◌else◌, nat_le, nat_lt, slice_get, slice_set, Vec}
 use Rattle.std.specs.Borrow.{Bor}
 use Rattle.std.specs.declared.alloc.Global.{Global}
@@ -39,20 +39,20 @@ beads steps replies = map bead (zip steps replies)
 abbrev pub client_beads : List Move × List StepReply → List Bead
 client_beads (steps, replies) = beads steps replies
 
--- those of each client
+-- the steps of each client with their replies
 abbrev pub all_beads : List (List Move) → List (List StepReply) → List (List Bead)
 all_beads clients replies = map client_beads (zip clients replies)
 
--- a step that the client answered by itself
+-- a step without a shared call
 abbrev pub is_local : StepReply → Bool
 is_local (step_reply.Called r) = false
 is_local r = true
 
--- how many local steps stand ahead of the next shared call
+-- the number of local steps before the next shared call
 abbrev pub locals : List Bead → ℕ
 locals bs = position_or_len (λ (b : Bead). not (is_local b.reply)) bs
 
--- where the picture stands: the steps that each client has left, what is known of the entries above, how many these are, and the rows
+-- the state of the drawing: the remaining steps of each client, the state after the entries above, their number, and the rows
 pub record Weave : Type 0 where
   pub left : List (List Bead)
   pub track : Track
@@ -79,7 +79,7 @@ module _ (tables : List SchemaTable) where
   abbrev pub local_row : ℕ → Bool → Bead → Row
   local_row lane hidden b = row_of lane None [] hidden b
 
-  -- these local steps are answered, and the client goes on behind its shared call
+  -- adds these local steps, and skips the shared call after them
   abbrev pub with_locals : ℕ → Bool → List Bead → Weave → Weave
   with_locals lane hidden bs w =
       record w { left = slice_set w.left lane (drop (locals bs + 1) bs); rows = w.rows ++ map (local_row lane hidden) (take (locals bs) bs) }
@@ -88,12 +88,12 @@ module _ (tables : List SchemaTable) where
     abbrev pub next : Weave → Weave
     next w = record w { place = w.place + 1 }
 
-    -- a shared call with its answer
+    -- a shared call with its reply
     abbrev pub called : ℕ → Option ℕ → Bool → Call → Bead → Reply → Weave → Weave
     called lane place hidden call b r w =
         record w { track = track_after w.track call r; rows = w.rows ++ row_of lane place (entry_acts made w.track w.place call r) hidden b ∷ [] }
 
-    -- that of the client in this lane
+    -- the shared call of the client in this lane
     abbrev pub shared_by : ℕ → Bool → Call → Bead → StepReply → Weave → Weave
     shared_by lane hidden call b (step_reply.Called r) w = called lane (Some w.place) hidden call b r w
     shared_by lane hidden call b r w = w
@@ -102,21 +102,21 @@ module _ (tables : List SchemaTable) where
     shared lane hidden call None w = w
     shared lane hidden call (Some b) w = shared_by lane hidden call b b.reply w
 
-    -- the client answers its local steps, and makes its shared call
+    -- adds the client's local steps, and its shared call
     abbrev pub turn : ℕ → Bool → Call → Option (List Bead) → Weave → Weave
     turn lane hidden call None w = w
     turn lane hidden call (Some bs) w = shared lane hidden call (slice_get bs (locals bs)) (with_locals lane hidden bs w)
 
-    -- One entry more; those before the first place are not drawn
+    -- Adds one entry; those before the first index are not drawn
     abbrev pub weave : ℕ → Weave → Entry → Weave
     weave from w e = next (turn e.client (nat_lt w.place from) e.call (slice_get w.left e.client) w)
 
-  -- the local steps that the clients from this lane on have left
+  -- the remaining local steps of the clients from this lane on
   abbrev pub rest_rows : ℕ → List (List Bead) → List Row
   rest_rows lane [] = []
   rest_rows lane (bs ∷ more) = map (local_row lane false) bs ++ rest_rows (lane + 1) more
 
-  -- These stand below the last entry, where that is drawn
+  -- These are below the last entry, if that is drawn
   abbrev pub ended : Range → List Entry → Weave → List Row
   ended range log w = w.rows ++ (if nat_le (length log) (range.to + 1) then rest_rows 0 w.left else [])
 
@@ -125,11 +125,11 @@ module _ (tables : List SchemaTable) where
   rows_of made range left log =
       ended range log (fold (weave made range.from) (new_weave left) (take (range.to + 1) log))
 
--- the headings of so many clients
+-- the headings of the clients
 abbrev pub client_name : ℕ → List ℕ
 client_name lane = codes "client " ++ decimal lane
 
--- what is drawn of a played script over these domains
+-- the scene of a played script over these domains
 abbrev pub scene_of : List SchemaTable → (ℕ → Option Made) → Range → List ℕ → List (List Bead) → List Entry → Scene
 scene_of tables made range domains left log =
     record { lanes = map client_name (range_with_len 0 (length left)); domains = domains; rows = rows_of tables made range left log }

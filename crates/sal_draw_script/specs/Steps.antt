@@ -1,4 +1,4 @@
--- A step of a script in words: its word and its parts, texts and values as JSON.
+-- A step of a script as text: its word and its parts, texts and values as JSON.
 use Rattle.std.specs.Prelude.{ℕ, List, [], ◌∷◌, ◌++◌, Option, None, Some, codes, if◌then◌else◌}
 use Rattle.json.specs.Print.{quoted}
 use Rattle.serde_json.specs.Data.{Data}
@@ -19,12 +19,12 @@ mode_text Checked = codes " rw"
 abbrev pub quoted_text : List ℕ → List ℕ
 quoted_text text = 32 ∷ quoted text
 
--- a context, or that there is none
+-- a context, or `null`
 abbrev pub context_text : Option (List ℕ) → List ℕ
 context_text None = codes " null"
 context_text (Some text) = quoted_text text
 
--- A value. No number with a fraction or an exponent is a value of a schema, and the digits of one that a script has are not told.
+-- A value. A number with a fraction or an exponent is no value of a schema, and its digits are not shown.
 abbrev pub value_text : Data → List ℕ
 value_text value = if has_float value then codes " a value with a fraction" else 32 ∷ compact_text value
 
@@ -32,7 +32,7 @@ value_text value = if has_float value then codes " a value with a fraction" else
 abbrev pub place_text : Store → List ℕ → List ℕ
 place_text store path = 32 ∷ (store_text store ++ quoted_text path)
 
--- a step that has numbers alone
+-- a step with numbers only
 abbrev pub numbers_text : Move → List ℕ
 numbers_text (Begin slot domain mode) = codes "begin" ++ (number slot ++ (number domain ++ mode_text mode))
 numbers_text (Submit slot) = codes "submit" ++ number slot
@@ -47,7 +47,7 @@ numbers_text (After mark) = codes "after" ++ number mark
 numbers_text (Upgrade version) = codes "upgrade" ++ number version
 numbers_text step = []
 
--- a step of a listener, a request or a mount that has numbers alone
+-- a step of a listener, a request or a mount with numbers only
 abbrev pub slot_text : Move → List ℕ
 slot_text (Take listener) = codes "take" ++ number listener
 slot_text (Unlisten listener) = codes "unlisten" ++ number listener
@@ -80,6 +80,6 @@ service_text (Mount device path) = codes "mount" ++ (number device ++ quoted_tex
 service_text (MountAt path) = codes "mount-at" ++ quoted_text path
 service_text step = []
 
--- of these all but one are empty
+-- all but one of these are empty
 abbrev pub step_text : Move → List ℕ
 step_text step = numbers_text step ++ (slot_text step ++ (path_text step ++ service_text step))

@@ -5,7 +5,7 @@ ghost use Rattle.serde_json.specs.Written as spec;
 
 use serde_json::Value;
 
-/// Whether the value has such a number.
+/// Whether the value has a number with a fraction or an exponent.
 pub(crate) fn has_float(value: &Value) -> bool
     ensures { result ≡ spec.has_float (view value.now) }
 {

@@ -1,12 +1,12 @@
-//! The scene of a played script: its entries in the order of the log, and above each the local steps that its client answered on the way.
+//! The scene of a played script: its entries in the order of the log, and above each the local steps that its client did before.
 //!
 //! | item | what it is |
 //! |---|---|
-//! | `Play` | what a script came to: the steps of its clients, the replies to them, and the log |
+//! | `Play` | a played script: the steps of its clients, their replies, and the log |
 //! | `Ground` | the schemas of the domains, and the commits by receipt |
 //! | `scene_of` | the scene of a play, for the entries of a `Range` |
 //!
-//! `specs/Steps` says how a step is written in words, `specs/Labels` how it is shown, and `specs/Rows` which rows there are.
+//! `specs/Steps` defines a step as text, `specs/Labels` its label, and `specs/Rows` the rows.
 //!
 //! ```
 //! let range = Range { from: 0, to: 1000000 };

@@ -1,4 +1,4 @@
-//! The pieces of a step in words. Each function writes behind what stands in the text.
+//! The pieces of a step as text. Each function appends to `text`.
 ghost use Rattle.std.specs.Prelude.{◌≡◌, ◌∷◌, ◌++◌, OnOk, false, string_bytes};
 ghost use Rattle.json.specs.Print.{quoted};
 ghost use Rattle.serde_json.specs.Written.{compact_text, has_float};
@@ -57,7 +57,7 @@ pub(crate) fn push_value(alloc: Global, text: &mut String, value: &Value) -> Res
     push_json(alloc, text, value)
 }
 
-// A space and a JSON text of these words.
+// A space and these words as a JSON text.
 fn push_quoted(alloc: Global, text: &mut String, words: &str) -> Result<(), NoMemory>
     ensures { OnOk result (string_bytes text.new ≡ string_bytes text.old ++ (32 ∷ quoted words.now)) }
 {
@@ -78,7 +78,7 @@ pub(crate) fn push_text(
     push_quoted(alloc, text, words.as_str())
 }
 
-// A context, or that there is none.
+// A context, or `null`.
 fn push_context(alloc: Global, text: &mut String, context: &Option<Str>) -> Result<(), NoMemory>
     ensures { OnOk result (string_bytes text.new ≡ string_bytes text.old ++ spec.context_text context.now) }
 {

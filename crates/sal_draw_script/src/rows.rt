@@ -1,4 +1,4 @@
-//! The rows of a played script: its entries in the order of the log, and above each the local steps that its client answered on the way.
+//! The rows of a played script: its entries in the order of the log, and above each the local steps that its client did before.
 ghost use Rattle.std.specs.Prelude.{◌≡◌, ◌<◌, ◌≤◌, ◌+◌, ◌^◌, ◌++◌, false, None, IfOk, OnOk, Some, drop, length, map, take};
 ghost use Rattle.std.specs.List.{fold, range_with_len};
 ghost use Rattle.sal_script.specs.Moves.{clients_of, moves_of};
@@ -18,14 +18,14 @@ use std::sync::Arc;
 /// The greatest number of a lane.
 const MAX_LANE: usize = 4294967295;
 
-/// Which entries are drawn: those from the first place of the log to the last.
+/// The range of entries to draw: from the first index of the log to the last.
 #[derive(Clone, Copy, Debug, PartialEq, Eq)]
 pub struct Range {
     pub from: u64,
     pub to: u64,
 }
 
-/// What a script came to: the steps of its clients, the replies to them, and the log.
+/// A played script: the steps of its clients, their replies, and the log.
 #[derive(Clone, Copy)]
 pub struct Play<'a> {
     pub clients: &'a [Program],
@@ -33,7 +33,7 @@ pub struct Play<'a> {
     pub log: &'a [Entry],
 }
 
-/// What a picture is drawn by: the schemas of the domains, each by its last version, and the commits by receipt, from 0 on.
+/// The schemas of the domains, each of its last version, and the commits by receipt, from 0 on.
 #[derive(Clone, Copy)]
 pub struct Ground<'a> {
     pub schemas: &'a [Arc<Schema>],
@@ -47,7 +47,7 @@ pub struct Bead<'a> {
     pub reply: &'a StepReply,
 }
 
-/// Where the picture stands: what each client has left, what is known of the entries above, how many these are, and the rows.
+/// The state of the drawing: the remaining steps of each client, the state after the entries above, their number, and the rows.
 #[derive(Drop)]
 pub struct Weave<'x, 'a> {
     pub left: Vec<&'x [Bead<'a>]>,
@@ -56,7 +56,7 @@ pub struct Weave<'x, 'a> {
     pub rows: Vec<Row>,
 }
 
-// Where a row stands: its lane, its place if it is an entry's, and whether it is hidden.
+// The position of a row: its lane, its index if it is an entry's, and whether it is hidden.
 #[derive(Clone, Copy)]
 struct At {
     lane: u32,
@@ -110,7 +110,7 @@ fn all_beads<'x>(
     Ok(all)
 }
 
-// What the clients have left ahead of the first entry.
+// The remaining steps of the clients before the first entry.
 fn whole_of<'x, 'a>(
     alloc: Global,
     beads: &'x [Vec<Bead<'a>>],
@@ -124,7 +124,7 @@ fn whole_of<'x, 'a>(
     Ok(left)
 }
 
-// How many local steps stand ahead.
+// The number of local steps before the next shared call.
 fn locals(beads: &[Bead]) -> usize
     ensures count { result ≡ spec.locals (map spec.bead_of beads.now) }
     ensures within { result ≤ length beads.now }
@@ -194,7 +194,7 @@ impl<'x, 'a> Weave<'x, 'a> {
         }
     }
 
-    // The row of a shared call, which has this answer.
+    // The row of a shared call, with its reply.
     fn called(&mut self, ground: Ground, at: At, bead: Bead, said: Said) -> Result<(), NoMemory>
         ensures { OnOk result (spec.weave_of self.new ≡ spec.called (spec.tables_in ground.entry.schemas.now) (made_in ground.entry.made.now) at.lane at.place at.hidden said.entry.call.now (spec.bead_of bead.entry) said.entry.reply.now (spec.weave_of self.old)) }
     {
@@ -215,7 +215,7 @@ impl<'x, 'a> Weave<'x, 'a> {
         }
     }
 
-    // The local steps ahead are answered.
+    // Adds the next local steps.
     fn locals(
         &mut self,
         schemas: &[Arc<Schema>],
@@ -232,7 +232,7 @@ impl<'x, 'a> Weave<'x, 'a> {
         Ok(())
     }
 
-    // The client answers its local steps, and makes its shared call.
+    // Adds the client's local steps, and its shared call.
     fn turn(
         &mut self,
         ground: Ground,
@@ -252,7 +252,7 @@ impl<'x, 'a> Weave<'x, 'a> {
         }
     }
 
-    // One entry more.
+    // Adds one entry.
     fn weave(&mut self, ground: Ground, from: u64, entry: &Entry) -> Result<(), NoMemory>
         requires { self.old.place < 2 ^ 63 }
         ensures { OnOk result (spec.weave_of self.new ≡ spec.weave (spec.tables_in ground.entry.schemas.now) (made_in ground.entry.made.now) from (spec.weave_of self.old) entry.now) }
@@ -280,7 +280,7 @@ impl<'x, 'a> Weave<'x, 'a> {
     }
 }
 
-// The number of a lane; more lanes than numbers want memory.
+// The number of a lane. `NoMemory` if there are more lanes than numbers.
 fn lane_of(lane: usize) -> Result<u32, NoMemory>
     ensures { IfOk result (λ number. number ≡ lane) }
 {
@@ -290,7 +290,7 @@ fn lane_of(lane: usize) -> Result<u32, NoMemory>
     Ok(lane as u32)
 }
 
-// What the clients have left.
+// Adds the remaining steps of the clients.
 fn add_rest(schemas: &[Arc<Schema>], rows: &mut Vec<Row>, left: &[&[Bead]]) -> Result<(), NoMemory>
     ensures { OnOk result (rows.new.items ≡ rows.old.items ++ spec.rest_rows (spec.tables_in schemas.now) 0 (map spec.beads_in left.now)) }
 {
@@ -306,7 +306,7 @@ fn add_rest(schemas: &[Arc<Schema>], rows: &mut Vec<Row>, left: &[&[Bead]]) -> R
     Ok(())
 }
 
-// What stands behind so many and one more.
+// The steps after the first `count` and one more.
 fn behind<'x, 'a>(beads: &'x [Bead<'a>], count: usize) -> &'x [Bead<'a>]
     requires { count ≤ length beads.now }
     ensures { result.now ≡ drop (count + 1) beads.now }
@@ -314,7 +314,7 @@ fn behind<'x, 'a>(beads: &'x [Bead<'a>], count: usize) -> &'x [Bead<'a>]
     &beads[usize::min(count + 1, beads.len())..]
 }
 
-// The entries of the log that are not behind the range.
+// The entries of the log up to the end of the range.
 fn front_of(log: &[Entry], to: u64) -> &[Entry]
     ensures { result.now ≡ take (to + 1) log.now }
 {
@@ -324,7 +324,7 @@ fn front_of(log: &[Entry], to: u64) -> &[Entry]
     &log[..to as usize + 1]
 }
 
-/// The rows of what was played. It fails only where memory runs out.
+/// The rows of a played script. It fails only if memory runs out.
 fn rows_of(alloc: Global, ground: Ground, range: Range, play: Play) -> Result<Vec<Row>, NoMemory>
     ensures { IfOk result (λ rows. rows.items ≡ spec.rows_of (spec.tables_in ground.entry.schemas.now) (made_in ground.entry.made.now) range (spec.all_beads (clients_of play.entry.clients.now) play.entry.replies.now) play.entry.log.now) }
 {
@@ -348,7 +348,7 @@ fn client_name(alloc: Global, lane: usize) -> Result<Str, NoMemory>
     Ok(Str::from_string(name))
 }
 
-// The headings of so many clients.
+// The headings of this many clients.
 fn names_of(alloc: Global, lanes: usize) -> Result<Vec<Str>, NoMemory>
     ensures { IfOk result (λ names. names.items ≡ map spec.client_name (range_with_len 0 lanes)) }
 {
@@ -359,7 +359,7 @@ fn names_of(alloc: Global, lanes: usize) -> Result<Vec<Str>, NoMemory>
     Ok(names)
 }
 
-/// What is drawn of what was played, for these domains. It fails only where memory runs out.
+/// The scene of a played script, for these domains. It fails only if memory runs out.
 pub fn scene_of(
     alloc: Global,
     ground: Ground,

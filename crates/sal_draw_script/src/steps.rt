@@ -1,4 +1,4 @@
-//! Steps of a script in words. Each function writes behind what stands in the text.
+//! Steps of a script as text. Each function appends to `text`.
 ghost use Rattle.std.specs.Prelude.{◌≡◌, ◌++◌, OnOk, string_bytes};
 ghost use Rattle.sal_script.specs.Moves.{move_of};
 ghost use Rattle.sal_draw_script.specs.Steps as spec;
@@ -11,7 +11,7 @@ use sal_script::ScriptStep;
 use sal_types::{NoMemory, push_word};
 use std::alloc::Global;
 
-/// The step in words.
+/// The step as text.
 pub(crate) fn push_step(alloc: Global, text: &mut String, step: &ScriptStep) -> Result<(), NoMemory>
     ensures { OnOk result (string_bytes text.new ≡ string_bytes text.old ++ spec.step_text (move_of step.now)) }
 {

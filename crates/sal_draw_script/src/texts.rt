@@ -24,7 +24,7 @@ pub(crate) struct Texts {
     pub title: Str,
 }
 
-// Whether the step is done and has nothing more to tell.
+// Whether the step is done and its reply has nothing else.
 fn says_ok(reply: &StepReply) -> bool
     ensures { result ≡ spec.says_ok reply.now }
 {

@@ -1,4 +1,4 @@
--- The result of one step of a client after a log, by the definitions of a script that is played.
+-- The result of one step of a client after a log, by the definitions of a played script.
 use Rattle.std.specs.Prelude.{◌≡◌, ◌⊎◌, ◌≤◌, ℕ, List, [], ◌∷◌, length}
 use Rattle.sal_history.specs.declared.call.Call.{Call}
 use Rattle.sal_script.specs.Moves.{Move}
@@ -18,7 +18,7 @@ use Rattle.sal_client.specs.Wishes.{GrowsAtMost}
 use Rattle.sal_embed.specs.declared.fault.StepFault.{StepFault}
 use Rattle.sal_embed.specs.declared.fault.StepFault.TheVariants as fault
 
--- The client answers the step by itself, and the log is as it was; or it makes the shared call that the step asks for, which is one entry more.
+-- The step is local, and the log is unchanged; or the client makes the step's shared call, which is one more entry.
 -- The reply is not yet among its replies.
 abbrev pub Answers : List Versions → ℕ → Move → StepReply → HubHistory → Client → HubHistory → Client → Type 0
 Answers tables c step r known old known' next =
@@ -30,13 +30,13 @@ abbrev pub IsAnswered : List Versions → Move → HubHistory → ClientState �
 IsAnswered tables step known old known' new =
     (r : StepReply) × (next : Client) × Answers tables old.number step r known (client_of old) known' next × (client_of new ≡ replied r next)
 
--- the client is as it was, to its definitions
+-- the client is unchanged, in the definitions' form
 pub record IsAsBefore (known : HubHistory) (old new : ClientState) : Type 0 where
   pub client : client_of new ≡ client_of old
   pub number : new.number ≡ old.number
   pub sound : IsSound known new
 
--- A step was not answered: the log is full, and hub and client are as they were; or memory ran out, and then the log may have the call's
+-- A step has no reply: the log is full, and hub and client are unchanged; or memory ran out, and then the log may have the call's
 -- entry.
 abbrev pub Stops : HubHistory → ClientState → HubHistory → ClientState → RunFault → Type 0
 Stops known old known' new HistoryFull = (limit ≤ length known.log) × (known' ≡ known) × IsAsBefore known old new

@@ -39,7 +39,7 @@ pub record IsThrough (world : List Domain) (log : List Entry) (c : ℕ) (steps :
   pub at : IsAt (versions_of world) world c steps log (record { client = client; steps = [] })
   pub replies : client.replies ≡ rs
 
--- What is kept of that client: its slots, until it is lost, and the lines of the replies that were written.
+-- The record of that client: its slots, until it is lost, and the lines of the replies that were written.
 pub record Keeps (tables : List SchemaTable) (c : ℕ) (client : Client) (caller : Caller) : Type 0 where
   pub slots : MatchOption caller.run ⊤ (λ run. client ≡ answering client.replies (client_of run.client))
   pub told : List StepReply
@@ -63,7 +63,7 @@ pub record IsCaller (known : HubHistory) (c : ℕ) (caller : Caller) : Type 0 wh
   pub number : caller.number ≡ c
   pub held : MatchOption caller.run ⊤ (IsHeld known c)
 
--- The client is the same as before, wherever it was.
+-- The client is the same as before, if it has a place.
 pub record Follows (tables : List SchemaTable) (old new : Caller) : Type 0 where
   pub number : new.number ≡ old.number
   pub here : is_some new.run ≡ is_some old.run

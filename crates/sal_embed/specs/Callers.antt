@@ -1,4 +1,4 @@
--- What one step leaves of the client that made it.
+-- The effect of one step on its client.
 use Rattle.std.specs.Prelude.{Vec, decimal, MatchOption, string_bytes, ◌≡◌, ◌≤◌, ℕ, ⊤, List, [], ◌∷◌, ◌++◌, Option, None, Some, Result, Ok, Err, length, true, false}
 use Rattle.std.specs.Option.{is_some}
 use Rattle.std.specs.declared.alloc.Global.{Global}
@@ -27,7 +27,7 @@ pub record IsFresh (c : ℕ) (caller : Caller) : Type 0 where
 abbrev pub line_with : ℕ → ℕ → List ℕ → List ℕ
 line_with client step text = decimal client ++ (number step ++ (32 ∷ (text ++ (10 ∷ []))))
 
--- the reply that was not written before is written as this text; none is, if none was left
+-- the pending reply is written as this text; none is, if there was none
 abbrev pub IsTold : List SchemaTable → Caller → Option (List ℕ) → Type 0
 IsTold tables old None = untold old ≡ []
 IsTold tables old (Some text) = (r : StepReply) × (untold old ≡ r ∷ []) × (text ≡ reply_text tables r)
@@ -49,12 +49,12 @@ pub record IsForgotten (old new : Caller) : Type 0 where
   pub told : new.told ≡ old.told
   pub run : IsEmptied old.run new.run
 
--- no step more was made
+-- no further step was made
 pub record IsSameAt (known : HubHistory) (old : Caller) (known' : HubHistory) (new : Caller) : Type 0 where
   pub hub : known' ≡ known
   pub stands : (steps : List Move) (rs : List StepReply) → StandsAt known old.number steps rs old → StandsAt known old.number steps rs new
 
--- one step more was made, with this reply
+-- one more step was made, with this reply
 abbrev pub GoesOn : HubHistory → Caller → Move → StepReply → HubHistory → Caller → Type 0
 GoesOn known old step r known' new =
     (steps : List Move) (rs : List StepReply) → StandsAt known old.number steps rs old → StandsAt known' old.number (steps ++ step ∷ []) (rs ++ r ∷ []) new
@@ -67,13 +67,13 @@ IsMade known old step known' new = (r : StepReply) × (untold new ≡ r ∷ []) 
 abbrev pub Waits : Caller → Type 0
 Waits caller = untold caller ≡ [] → ⊥
 
--- the reply that waits is written, or memory ran out
+-- the pending reply is written, or memory ran out
 abbrev pub IsFinished : List SchemaTable → Caller → Result (List ℕ) StepFault → Type 0
 IsFinished tables old (Ok text) = (r : StepReply) × (untold old ≡ r ∷ []) × (text ≡ reply_text tables r)
 IsFinished tables old (Err Untold) = Unit {0}
 IsFinished tables old (Err fault) = ⊥
 
--- Why it was not made. After want of memory the client is lost, and nothing is said where the log has the call's entry.
+-- Why it was not made. If memory runs out, the client is lost, and there is no further condition if the log has the call's entry.
 abbrev pub Fails : HubHistory → Caller → HubHistory → Caller → StepFault → Type 0
 Fails known old known' new Lost = (is_some old.run ≡ false) × (is_some new.run ≡ false) × IsSameAt known old known' new
 Fails known old known' new Full = (limit ≤ length known.log) × (is_some new.run ≡ is_some old.run) × IsSameAt known old known' new

@@ -18,8 +18,8 @@ AreAScript it =
     (programs : Programs) (replies : Replies) (n : ℕ) → HasCome it programs replies → length it.callers.items ≤ n
     → IsOneOrder it.hub.world (listed n programs) it.hub.log (listed n replies)
 
--- The world of a script does not depend on its clients and its order: that of the script which a broker was opened from is that of the same
--- script with whatever clients.
+-- The world of a script does not depend on its clients and its order: the world of a broker's script is that of the same
+-- script with any clients.
 abbrev pub WorldsAreOfModules : Type 0
 WorldsAreOfModules =
     (parts : Parts) (world : List Domain) (clients : List (List Move)) (order : List ℕ) → prepared_of parts ≡ Ok (record { parts = parts; world = world })

@@ -12,16 +12,16 @@ use Rattle.sal_embed.specs.declared.clients.Clients.{Clients}
 use Rattle.sal_embed.specs.Outcomes.{HasCome}
 use Rattle.sal_embed.specs.Scripts.{none}
 
--- a script may not have these: the first counts
+-- a script may not have these: the first is returned
 abbrev pub without : {A X : Type 0} → List ℕ → List X → Result A Status → Result A Status
 without place [] made = made
 without place (x ∷ xs) made = Err (BadScript place)
 
--- what is prepared, where the script has no clients and no order
+-- the prepared script, if it has no clients and no order
 abbrev pub bare : Prepared → Result Prepared Status
 bare it = without (codes "clients") it.parts.clients (without (codes "order") it.parts.order (Ok it))
 
--- What the bytes are opened to, or the status of the first that is wrong with them: all that is wrong with a script, then its clients, then its order.
+-- The result of opening the bytes, or the status of their first fault: of all faults of a script, then its clients, then its order.
 abbrev pub opened : List ℕ → Result Prepared Status
 opened bytes = prepared bytes >>= bare
 
@@ -43,7 +43,7 @@ pub record IsBegun (it : Clients) : Type 0 where
 abbrev pub played_by : List (List Move) → List ℕ → Parts → Parts
 played_by clients order parts = record parts { clients = clients; order = order }
 
--- ---- what functions return
+-- ---- results of functions
 
 -- this place is bad, unless memory ran out
 abbrev pub IsBadAt : List ℕ → Status → Type 0
@@ -55,6 +55,6 @@ IsBadAt place status = ⊥
 abbrev pub HasNone : {X Y : Type 0} → List ℕ → List X → Result Y Status → Type 0
 HasNone place xs result = MatchResult result (λ done. xs ≡ []) (λ status. (xs ≡ [] → ⊥) × IsBadAt place status)
 
--- what was prepared has no clients and no order
+-- the prepared script has no clients and no order
 abbrev pub IsBareOr : {Y : Type 0} → CodePrepared → Result Y Status → Type 0
 IsBareOr it result = Comes (λ done. seen it) (bare (seen it)) result

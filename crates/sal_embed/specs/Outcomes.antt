@@ -1,4 +1,4 @@
--- What a call of an embedded broker answers, and what it leaves.
+-- The result and the effect of a call of an embedded broker.
 use Rattle.std.specs.Prelude.{◌≡◌, ◌≤◌, ◌<◌, ℕ, Bool, true, false, List, [], Option, length, slice_get, Result, Ok, Err, if◌then◌else◌, not}
 use Rattle.std.specs.List.{flat_map}
 use Rattle.std.specs.Option.{is_some, option_map_or}
@@ -21,7 +21,7 @@ use Rattle.sal_embed.specs.Scripts.{Programs, Replies, listed, with}
 abbrev pub HasCome : Clients → Programs → Replies → Type 0
 HasCome it programs replies = AreThrough it.hub it.callers.items programs replies
 
--- the client found no memory in an earlier step
+-- memory ran out in an earlier step of the client
 abbrev pub is_lost : Clients → ℕ → Bool
 is_lost it c = option_map_or (λ (caller : Caller). not (is_some caller.run)) (slice_get it.callers.items c) false
 
@@ -53,7 +53,7 @@ Makes old new c step (Err NoMemory) = IsSame old new × LosesNoOther c old new
 Makes old new c step (Err Broken) = GrowsAtMost c old.hub new.hub
 Makes old new c step (Err fault) = ⊥
 
--- the result of a step, by whether the log has grown: if it has, want of memory is that of a call that was made
+-- the result of a step, by whether the log has grown: if it has, `NoMemory` is that of a call that was made
 abbrev pub broken_if : Bool → Result (List ℕ) StepFault → Result (List ℕ) StepFault
 broken_if grown (Err NoMemory) = Err (if grown then Broken else NoMemory)
 broken_if grown result = result
@@ -63,7 +63,7 @@ pub record IsPlacing (old new : Clients) : Type 0 where
   pub same : IsSame old new
   pub loses : LosesNone old new
 
--- The step that the bytes denote was made by client c, and so on; or they are no step, or the client is none.
+-- The step that the bytes denote was made by client c, and so on; or they are no step, or the client has no valid number.
 abbrev pub Steps : Clients → Clients → ℕ → List ℕ → Result (List ℕ) StepFault → Type 0
 Steps old new c bytes (Err BadClient) = (65536 ≤ c) × (new ≡ old)
 Steps old new c bytes (Err BadStep) = (c < 65536) × ((place : List ℕ) × (one_step old.checked_reads bytes ≡ Err place)) × (new ≡ old)

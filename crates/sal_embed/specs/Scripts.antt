@@ -8,7 +8,7 @@ use Rattle.sal_script.specs.declared.reply.StepReply.{StepReply}
 abbrev pub Each : Type 0 → Type 0
 Each A = ℕ → List A
 
--- nothing for each
+-- the empty list for each
 abbrev pub none : {A : Type 0} → Each A
 none c = []
 

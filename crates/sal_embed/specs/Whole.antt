@@ -1,4 +1,4 @@
--- What holds of every embedded broker.
+-- The invariant of an embedded broker.
 use Rattle.std.specs.Prelude.{◌≡◌, ◌≤◌, List, length}
 use Rattle.sal_schema.specs.declared.table.SchemaTable.{SchemaTable}
 use Rattle.sal_script.specs.Tables.{Versions, tables_of, versions_of}

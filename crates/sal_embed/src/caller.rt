@@ -21,7 +21,7 @@ use sal_types::{NoMemory, Str};
 use std::alloc::Global;
 use std::sync::Arc;
 
-/// A client. Its run keeps the reply that is not written yet, if there is one, and no other; it is none once it is lost.
+/// A client. Its run keeps only the reply that is not written yet, if there is one; the run is none once the client is lost.
 #[derive(Drop)]
 pub struct Caller {
     pub(crate) number: u32,
@@ -66,7 +66,7 @@ impl Caller {
         self.finish(alloc, schemas)
     }
 
-    // Writes the reply that waits.
+    // Writes the pending reply.
     fn finish(&mut self, alloc: Global, schemas: &[Arc<Schema>]) -> Result<Str, StepFault>
         requires few { length (untold self.old) ≤ 1 }
         requires waits { Waits self.old }
@@ -166,7 +166,7 @@ impl Caller {
     }
 }
 
-// Lets go of the replies of a run.
+// Drops the replies of a run.
 fn let_go(run: &mut ClientRun)
     ensures { IsLetGo run.old run.new }
 {

@@ -29,7 +29,7 @@ pub struct Clients {
 }
 
 impl Clients {
-    /// Has a place for the client, and for each of a lower number.
+    /// Makes a place for the client, and for each of a lower number.
     pub(crate) fn place(&mut self, alloc: Global, client: u32) -> Result<(), NoMemory>
         requires callers { AreCallers self.old.hub self.old.callers.items }
         requires client { client < 65536 }
@@ -96,7 +96,7 @@ fn has_grown(hub: &Hub, calls: usize) -> bool
     hub.log().len() > calls
 }
 
-// The result of a step. Want of memory in a log that has grown is reported as such.
+// The result of a step. `NoMemory` with a log that has grown is reported as such.
 fn broken_if(grown: bool, made: Result<Str, StepFault>) -> Result<Str, StepFault>
     ensures { result ≡ broken_if grown made }
 {

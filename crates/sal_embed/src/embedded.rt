@@ -21,7 +21,7 @@ use std::sync::Arc;
 /// Client numbers are below this.
 pub const CLIENTS: u32 = 65536;
 
-/// A broker: the hub over a script's opening trees with the clients that made steps, and what reads and writes by the schemas of its
+/// A broker: the hub over a script's opening trees with the clients that made steps, and the readers and schemas of its
 /// domains. A contract sees the hub and the clients.
 #[derive(Drop)]
 pub struct Embedded {
@@ -52,7 +52,7 @@ impl Embedded {
     ghost use Rattle.sal_embed.specs.Outcomes.{Reports, Steps};
     ghost use Rattle.sal_prepare.specs.Scripted as prepared;
 
-    /// Opens the broker of a script that has no clients and no order; or says what is wrong first.
+    /// Opens the broker of a script that has no clients and no order; or returns the first fault.
     pub fn open(alloc: Global, script: &[u8]) -> Result<Embedded, Status>
         ensures opens { prepared.Comes (λ e. e.hub.world) (world_of (opened script.now)) result }
         ensures reads { prepared.Comes (λ e. e.checked_reads) (reads_of (opened script.now)) result }
@@ -86,7 +86,7 @@ impl Embedded {
     }
 }
 
-// The broker over what was prepared.
+// The broker over a prepared script.
 fn over(alloc: Global, prepared: Prepared) -> Embedded
     requires schemas { tables_in prepared.read.schemas.items ≡ tables_of prepared.hub.world }
     requires few { length prepared.read.schemas.items ≤ 64 }
@@ -141,7 +141,7 @@ fn no_order(alloc: Global, script: &Script) -> Result<(), Status>
     Err(bad(alloc, "order"))
 }
 
-// The status of a script with a bad member, or of want of memory.
+// The status of a script with a bad member, or `NoMemory`.
 fn bad(alloc: Global, place: &str) -> Status
     ensures { IsBadAt place.now result }
 {

@@ -2,14 +2,14 @@
 use sal_script::ScriptFault;
 use sal_types::NoMemory;
 
-/// Why a step has no reply. All but the last two leave the broker as it was, but that `NoMemory` may lose the client.
+/// Why a step has no reply. All but the last two leave the broker unchanged, except that `NoMemory` may lose the client.
 #[derive(Clone, Copy, Debug, PartialEq, Eq)]
 pub enum StepFault {
     /// The bytes are no step.
     BadStep,
     /// The number of the client is 65,536 or more.
     BadClient,
-    /// The log has 1,000,000 calls, and the step asks for one more.
+    /// The log has 1,000,000 calls, and the step has one more.
     Full,
     /// Memory ran out in an earlier step of this client, so it makes no more steps.
     Lost,
@@ -17,7 +17,7 @@ pub enum StepFault {
     NoMemory,
     /// The step was made, and memory ran out for the text of its reply. The report has it.
     Untold,
-    /// Memory ran out after a call that is in the log. The broker is not to be used again.
+    /// Memory ran out after a call that is in the log. The broker must not be used again.
     Broken,
 }
 

@@ -4,7 +4,7 @@ ghost use Rattle.sal_embed.specs.Laws.{AreAScript, WorldsAreOfModules};
 use crate::embedded::Embedded;
 
 /// The steps so far are a script that has them as its clients' programs, played in the order of the log: this log, these replies, and
-/// the order is legal. So the report is the one that the command writes for that script, where it is one: for at most 16 clients with at most 60,000
+/// the order is legal. So the report is the one that the command writes for that script, if it is one: for at most 16 clients with at most 60,000
 /// steps each.
 pub fn steps_are_a_script(broker: &Embedded)
     ensures { AreAScript broker.now }

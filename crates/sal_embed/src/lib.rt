@@ -1,4 +1,4 @@
-//! A broker inside another program: opened from a script's text, then one step of one client at a time, each answered at once.
+//! A broker inside another program: opened from a script's text, then one step of one client at a time, each with its reply at once.
 //!
 //! | item | what it is |
 //! |---|---|
@@ -7,9 +7,9 @@
 //! | `CLIENTS` | client numbers are below this |
 //! | `laws` | the steps so far are a script, played in the order of the log |
 //!
-//! The steps have the form that a script's clients have, and a reply has the words of a report's line. There are no threads and
-//! no waiting: a call returns when its step is answered. A client is there from its first step on, under the number that the
-//! caller gives it; there is nothing to register.
+//! The steps have the form of a script's steps, and a reply has the words of a report's line. There are no threads and
+//! no waiting: a call returns when its step is answered. A client exists from its first step on, under the number that the
+//! caller gives it; there is no registration.
 //!
 //! ```
 //! let mut broker = Embedded::open(alloc, br#"{"modules":["module m { .. }"]}"#)?;
@@ -17,7 +17,7 @@
 //! let report = broker.report(alloc)?;                          // order 0, 0 0 begun 0, tree 0 0 {} {}
 //! ```
 //!
-//! Cost: beside what the step itself takes, the reading of its JSON and one line of text, which is kept for the report. The log grows by
+//! Cost: that of the step itself, the reading of its JSON and one line of text, which is kept for the report. The log grows by
 //! each shared call, up to 1,000,000. There is a place for each client number up to the greatest that was used: some 300 bytes each.
 #![tactic(auto)]
 

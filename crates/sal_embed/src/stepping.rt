@@ -1,4 +1,4 @@
-//! One step of one client, by itself.
+//! One single step of one client.
 ghost use Rattle.std.specs.Prelude.{◌≡◌, IfErr, IsTrue, List, OnOk};
 ghost use Rattle.sal_client.specs.Clients.{IsSound, client_of};
 ghost use Rattle.sal_client.specs.Runs.{MakesNext};
@@ -16,8 +16,8 @@ use sal_types::NoMemory;
 use std::alloc::Global;
 use std::slice;
 
-/// Answers one step of the client, with its shared call if it asks for one. Where the log is full and the step asks for a call, hub and client are as they
-/// were. After want of memory the client is not to be used again, and the hub has the call's entry or has not.
+/// Makes one step of the client, with its shared call if it has one. If the log is full and the step has a call, hub and client are
+/// unchanged. If memory runs out, the client must not be used again, and the hub may or may not have the call's entry.
 pub(crate) fn step_client(
     alloc: Global,
     readers: &Readers,

@@ -1,38 +1,30 @@
 -- Lists of mounts follow the calls, and the calls on mounts of a log are those of its history.
-use Rattle.std.proofs.Common.{◌≡◌, ℕ, zero, suc, ◌+◌, ◌<◌, ◌≤◌, Bool, cond, true, false, List, [], ◌∷◌, ◌++◌, length, map, Option, Some, None, refl, ap, sym, ◌∙◌, subst, append-nil, append_assoc, take, arith}
-use Rattle.std.proofs.lemmas.List.Elements.{filter_map-append}
-use Rattle.std.proofs.lemmas.List.Sums.{fold-append, fold_more}
+use Rattle.std.proofs.Common.{◌≡◌, ℕ, ◌+◌, ◌<◌, Bool, cond, true, false, List, [], ◌∷◌, ◌++◌, length, map, None, refl, ap, sym, ◌∙◌, subst, append-nil, append_assoc, take}
+use Rattle.std.proofs.lemmas.List.Sums.{fold_more}
 use Rattle.std.specs.Prelude.{Result, Ok, Err, IfOk, OnOk, slice_index_or}
 use Rattle.std.specs.declared.alloc.Global.{Global}
 use Rattle.std.specs.declared.vec.Vec.{Vec}
 use Rattle.sal_types.specs.declared.memory.NoMemory.{NoMemory as Wanting}
-use Rattle.std.specs.List.{cons_option, filter, filter_map, fold}
+use Rattle.std.specs.List.{filter, fold}
 use Rattle.sal_mount.specs.declared.call.MountCall.{MountCall}
 use Rattle.sal_mount.specs.declared.call.MountCall.TheVariants.{Mount as Mounting}
 use Rattle.sal_mount.specs.declared.call.MountFault.{MountFault}
-use Rattle.sal_mount.specs.declared.call.MountFault.TheVariants.{NoDomain, DeviceUsed, MountTaken, NoMemory}
 use Rattle.sal_mount.specs.declared.call.MountReply.{MountReply}
-use Rattle.sal_mount.specs.declared.call.MountReply.TheVariants.{Accepted, Refused}
-use Rattle.sal_mount.specs.Answers.{Fails, Makes, Refuses}
-use Rattle.sal_mount.specs.Mounts.{Made, Mounted, is_live, make, made_of, mounted, mounts, reply_to}
+use Rattle.sal_mount.specs.declared.call.MountReply.TheVariants.{Accepted}
+use Rattle.sal_mount.specs.Answers.{Fails, Makes}
+use Rattle.sal_mount.specs.Mounts.{Mounted, is_live, made_of, mounted, mounts}
 use Rattle.sal_mount.specs.Register.{IsOf, Register}
 use Rattle.sal_mount.proofs.Made.{mounted-one, mounted-same}
 use Rattle.sal_history.specs.declared.call.Entry.{Entry}
-use Rattle.sal_history.specs.Answered.{Answered}
 use Rattle.sal_history.specs.History.{answer, history}
+use Rattle.sal_history.specs.MountCalls.{mounts_in, with_call}
 use Rattle.sal_history.specs.Services.{mount_call, mounting}
-use Rattle.sal_history.specs.World.{Domain}
+use Rattle.sal_history.proofs.MountCalls.{calls-more, made-more, mounting-is}
 use Rattle.sal_hub.specs.HubHistory.{HubHistory}
 use Rattle.sal_epoch.specs.declared.mounts.Mount.{Mount}
-use Rattle.sal_epoch.specs.Mounts.{Follows, live_after, live_among, mount_of, mounted_at, mounts_in, mounts_left, with_call, with_live}
+use Rattle.sal_epoch.specs.Mounts.{Follows, live_after, live_among, mount_of, mounted_at, mounts_left, with_live}
 
 -- ---- one call
-
--- one call more, with its answer
-made-more : (n : ℕ) (calls : List MountCall) (call : MountCall) (reply : MountReply) → reply_to n (made_of n calls) call ≡ reply
-    → made_of n (calls ++ call ∷ []) ≡ made_of n calls ++ record { call = call; reply = reply } ∷ []
-made-more n calls call reply e =
-    fold-append (make n) [] calls (call ∷ []) ∙ ap (λ (r : MountReply). made_of n calls ++ record { call = call; reply = r } ∷ []) e
 
 module _ {calls : List MountCall} {old new : Register} {made : List Mount} (was : Follows calls old made) where
   -- what was mounted after the call
@@ -58,37 +50,11 @@ module _ {calls : List MountCall} {old new : Register} {made : List Mount} (was 
         ∙ sym (mounted-one (made_of old.devices calls) (record { call = Mounting path device; reply = Accepted }) (mounted_at device path) refl) ∙ told (Mounting path device) Accepted makes;
   }
 
--- a call that is refused was made
-pub made_if_refused : (old new : Register) (call : MountCall) (fault : MountFault) → Refuses old new call fault → Makes old new call (Refused fault)
-made_if_refused old new call NoMemory it = absurd it
-made_if_refused old new call (NoDomain id) it = it.made
-made_if_refused old new call (DeviceUsed id) it = it.made
-made_if_refused old new call (MountTaken id) it = it.made
-
 -- ---- a log
 
 -- before the first call nothing is mounted
 pub nothing_listed : (r : Register) (made : List Mount) → IsOf [] r → made ≡ [] → Follows [] r made
 nothing_listed r made register none = record { register = register; all = ap (map mount_of) none }
-
-abbrev with_entry : List MountCall → Entry → List MountCall
-with_entry calls x = with_call calls (mount_call x.call)
-
-module _ (world : List Domain) where
-  one_more : (answered : List Answered) (e : Entry) → mounting (answer world answered e) ≡ with_call (mounting answered) (mount_call e.call)
-  one_more answered e =
-      filter_map-append (λ (a : Answered). mount_call a.entry.call) answered _ ∙ with_option (mounting answered) (mount_call e.call)
-    where
-      with_option : (calls : List MountCall) (o : Option MountCall) → calls ++ cons_option o [] ≡ with_call calls o
-      with_option calls None = append-nil calls
-      with_option calls (Some call) = refl
-
-  from : (answered : List Answered) (log : List Entry) → mounting (fold (answer world) answered log) ≡ fold with_entry (mounting answered) log
-  from answered [] = refl
-  from answered (e ∷ log) = from (answer world answered e) log ∙ ap (λ (calls : List MountCall). fold with_entry calls log) (one_more answered e)
-
-  pub mounting-is : (log : List Entry) → mounting (history world log) ≡ mounts_in log
-  mounting-is log = from [] log
 
 -- ---- those that are live
 
@@ -128,10 +94,7 @@ on_ok (Err e) f p = tt
 -- one entry more
 pub one_entry : (log : List Entry) (i : ℕ) (e : Entry) (r : Register) (made : List Mount) → i < length log → e ≡ slice_index_or log i e
     → Follows (with_call (mounts_in (take i log)) (mount_call e.call)) r made → Follows (mounts_in (take (i + 1) log)) r made
-one_entry log i e r made inside here follows =
-    let more : mounts_in (take (i + 1) log) ≡ with_call (mounts_in (take i log)) (mount_call e.call) =
-    fold_more with_entry [] log i e inside ∙ ap (λ (x : Entry). with_call (mounts_in (take i log)) (mount_call x.call)) (sym here) in
-    subst (λ (calls : List MountCall). Follows calls r made) (sym more) follows
+one_entry log i e r made inside here follows = subst (λ (calls : List MountCall). Follows calls r made) (sym (calls-more log i e inside here)) follows
 
 -- a failure by the fault that it is
 pub fails_as : (old new : Register) (call : MountCall) (fault found : MountFault) → fault ≡ found → Fails old new call fault → Fails old new call found

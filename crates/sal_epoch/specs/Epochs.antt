@@ -34,8 +34,8 @@ AreStateless known = (n : ℕ) → n < length known.world → state_row (tables_
 
 -- ---- laws
 
--- No newest configuration of a hub has state data, where none of its openings was refused. Premise: each version extends the one before, the openings
--- are closed, and each submission is lawful over its transaction's base, as a hub keeps it.
+-- No newest configuration of a hub has state data, if none of its openings was refused. Premise: each version extends the one before, the openings
+-- are closed, and each submission is lawful over its transaction's base, as in each hub.
 abbrev pub HubsAreStateless : Type 0
 HubsAreStateless = (known : HubHistory) → AreSound known.world → AreSentLawful known.world (history known.world known.log) → fault_of known.world ≡ None → AreStateless known
 

@@ -1,14 +1,12 @@
--- What is mounted when an epoch ends: the mounts of a log are made once more, and those whose domain is live are listed.
-use Rattle.std.specs.Prelude.{◌≡◌, ℕ, Bool, List, [], ◌∷◌, ◌++◌, cond, length, map, Option, None, Some}
+-- The mounts at the end of an epoch: the mounts of a log are applied again, and those with a live domain are listed.
+use Rattle.std.specs.Prelude.{◌≡◌, ℕ, Bool, List, [], ◌∷◌, ◌++◌, cond, length, map}
 use Rattle.std.specs.List.{filter, fold}
 use Rattle.sal_types.specs.declared.value.Step.{Step}
 use Rattle.sal_mount.specs.declared.call.MountCall.{MountCall}
 use Rattle.sal_mount.specs.Mounts.{Made, Mounted, is_live, made_of, mounted}
 use Rattle.sal_mount.specs.Register.{IsOf, Register}
-use Rattle.sal_history.specs.declared.call.Entry.{Entry}
 use Rattle.sal_history.specs.History.{history}
 use Rattle.sal_history.specs.Services as services
-use Rattle.sal_history.specs.Services.{mount_call}
 use Rattle.sal_hub.specs.HubHistory.{HubHistory}
 use Rattle.sal_epoch.specs.declared.mounts.Mount.{Mount}
 
@@ -28,21 +26,12 @@ mounted_at device path = record { device = device; path = path }
 abbrev pub mount_of : Mount → Mounted
 mount_of m = mounted_at m.device m.path
 
--- one call more, if it is one on mounts
-abbrev pub with_call : List MountCall → Option MountCall → List MountCall
-with_call calls None = calls
-with_call calls (Some call) = calls ++ call ∷ []
-
--- the calls on mounts of a log, in order
-abbrev pub mounts_in : List Entry → List MountCall
-mounts_in log = fold (λ calls e. with_call calls (mount_call e.call)) [] log
-
--- the register is kept of these calls, and the list has the mounts that they made
+-- the register is that of these calls, and the list has the mounts that they made
 pub record Follows (calls : List MountCall) (r : Register) (made : List Mount) : Type 0 where
   pub register : IsOf calls r
   pub all : map mount_of made ≡ mounted (made_of r.devices calls)
 
--- one mount more, if its domain is live
+-- one more mount, if its domain is live
 abbrev pub with_live : (ℕ → Bool) → List Mounted → Mount → List Mounted
 with_live live ms m = ms ++ cond (live m.device) (mount_of m ∷ []) []
 

@@ -66,7 +66,7 @@ fn next_device(alloc: Global, hub: &Hub, index: usize) -> Result<Device, NoMemor
     device_of(alloc, hub, domain)
 }
 
-// Puts the device of the domain at the index after the others.
+// Appends the device of the domain at the index.
 fn add_next(
     alloc: Global,
     hub: &Hub,
@@ -94,8 +94,8 @@ fn all_devices(alloc: Global, hub: &Hub) -> Result<Vec<Device>, NoMemory>
     Ok(devices)
 }
 
-/// A device for each domain of the hub: the present version of its schema as version 0, and a copy of its newest trees as its opening. A hub over these and
-/// more devices has a domain more; without that, `next_hub` copies nothing.
+/// A device for each domain of the hub: the present version of its schema as version 0, and a copy of its newest trees as its opening. A hub over
+/// these and more devices has more domains; without more devices, `next_hub` needs no copy.
 ///
 /// The trees are closed by that version, as `Hub::open` requires, and break no structural rule of it. So `Hub::open` refuses these devices only if
 /// memory runs out, unless a newest configuration has state data; none has (`laws::hubs_are_stateless`).
@@ -109,10 +109,10 @@ pub fn next_devices(alloc: Global, hub: &Hub) -> Result<Vec<Device>, NoMemory>
     all_devices(alloc, hub)
 }
 
-/// A hub without calls that begins with the newest trees of this one, by the present version of each schema, under the version rules. The versions after
-/// the present one stay.
+/// A hub without calls that begins with the newest trees of this one, by the present version of each schema, under the version rules. The versions
+/// after the present one stay.
 ///
-/// It takes over the trees as they are, and drops all else of the old hub. It copies no node and makes no check, and cannot fail. The next hub has no fault
+/// It moves the trees, and drops everything else of the old hub. It copies no node and makes no check, and cannot fail. The next hub has no fault
 /// in its openings if this one has none (`sound`), through all epochs.
 pub fn next_hub(alloc: Global, hub: Hub, rules: Rules) -> Hub
     requires { length hub.world ≤ 64 }

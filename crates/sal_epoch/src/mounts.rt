@@ -1,11 +1,12 @@
-//! What is mounted: the mounts of a log are made once more.
+//! The mounts of a hub: the mounts of its log are applied again.
 ghost use Rattle.std.specs.Prelude.{◌≡◌, ◌≤◌, [], ◌∷◌, ◌++◌, List, cond, length, map, IfOk, OnOk};
 ghost use Rattle.sal_mount.specs.declared.call.MountCall.{MountCall};
 ghost use Rattle.sal_mount.specs.declared.call.MountCall.TheVariants.{Mount as Mounting, Unmount};
 ghost use Rattle.sal_mount.specs.Register.{IsOf};
 ghost use Rattle.sal_history.specs.Services.{mount_call};
 ghost use Rattle.sal_epoch.specs.declared.mounts.Mount.{Mount as Listed};
-ghost use Rattle.sal_epoch.specs.Mounts.{Follows, live_after, live_among, mount_of, mounted_at, mounts_in, mounts_left, with_call, with_live};
+ghost use Rattle.sal_history.specs.MountCalls.{mounts_in, with_call};
+ghost use Rattle.sal_epoch.specs.Mounts.{Follows, live_after, live_among, mount_of, mounted_at, mounts_left, with_live};
 
 use sal_history::{Call, Entry};
 use sal_hub::Hub;
@@ -13,7 +14,7 @@ use sal_mount::{MountFault, Mounts};
 use sal_types::{Duplicate, NoMemory, Path};
 use std::alloc::Global;
 
-/// A device that is mounted, and the path in the controller's own domain at which it is.
+/// A mounted device, and its path in the controller's own domain.
 #[derive(Drop)]
 pub struct Mount {
     pub device: u32,
@@ -22,7 +23,7 @@ pub struct Mount {
 
 /// The devices of the hub that are mounted, in the order in which they were mounted.
 ///
-/// The next hub begins with none of them mounted. It goes once through the log, and makes its calls on mounts once more.
+/// In the next hub none of them is mounted. It goes once through the log, and applies its calls on mounts again.
 pub fn mounts_of(alloc: Global, hub: &Hub) -> Result<Vec<Mount>, NoMemory>
     requires { length hub.now.world ≤ 64 }
     ensures { IfOk result (λ list. map mount_of list.items ≡ mounts_left hub.now) }
@@ -64,7 +65,7 @@ fn replay_all(register: &mut Mounts, made: &mut Vec<Mount>, log: &[Entry]) -> Re
     Ok(())
 }
 
-// Makes the call once more, if it is one on mounts.
+// Applies the call again, if it is one on mounts.
 fn replay(register: &mut Mounts, made: &mut Vec<Mount>, call: &Call) -> Result<(), NoMemory>
     ensures follows { OnOk result ((calls : List MountCall) → Follows calls register.old made.old.items → Follows (with_call calls (mount_call call.now)) register.new made.new.items) }
     ensures devices { OnOk result (register.new.devices ≡ register.old.devices) }

@@ -1,4 +1,4 @@
--- The rule of a feed's queue: one seat offers and one takes, and nothing is lost, doubled or out of order between them.
+-- The rule of a feed's queue: one seat offers and one takes, and no notification is lost, repeated or reordered between them.
 use Rattle.std.specs.Prelude.{◌≡◌, ℕ, Bool, true, List, [], ◌∷◌, ◌++◌}
 use mathlib.Core.Option.{some}
 use lib.ListN.{get_elem?}
@@ -8,7 +8,7 @@ use Rattle.sal_feed.specs.declared.rule.Log.{Log}
 abbrev pub log : Bool → Bool → List Note → List Note → Log
 log may_offer may_take offered taken = record { offers = may_offer; takes = may_take; offered = offered; taken = taken }
 
--- what a seat knows after a note more
+-- what a seat knows after one more notification
 abbrev pub with_offered : Log → Note → Log
 with_offered v x = log v.offers v.takes (v.offered ++ x ∷ []) v.taken
 
@@ -20,7 +20,7 @@ pub record Knows (offerer taker : ℕ) (offered taken : List Note) (seat : ℕ) 
   pub offers : v.offers ≡ true → (seat ≡ offerer) × (v.offered ≡ offered)
   pub takes : v.takes ≡ true → (seat ≡ taker) × (v.taken ≡ taken)
 
--- what the queue holds is what was offered after what was taken
+-- the queue has the notifications that were offered after those taken
 pub record Carries (items : List Note) (views : List Log) : Type 0 where
   pub offerer : ℕ
   pub taker : ℕ
@@ -29,14 +29,14 @@ pub record Carries (items : List Note) (views : List Log) : Type 0 where
   pub whole : offered ≡ taken ++ items
   pub known : (seat : ℕ) (v : Log) → get_elem? views seat ≡ some v → Knows offerer taker offered taken seat v
 
--- these notes waited when that was what had been offered
+-- these notifications waited when `offered` were all that had been offered
 abbrev pub Waits : List Note → List Note → Type 0
 Waits offered items = (taken : List Note) × (offered ≡ taken ++ items)
 
--- these notes waited when that was what had been taken
+-- these notifications waited when `taken` were all that had been taken
 abbrev pub Follows : List Note → List Note → Type 0
 Follows taken items = (offered : List Note) × (offered ≡ taken ++ items)
 
--- the note was the first of those that were left
+-- the notification was the first of the remaining ones
 abbrev pub Leaves : Log → Note → Type 0
 Leaves v x = (rest : List Note) × (v.offered ≡ v.taken ++ x ∷ rest)

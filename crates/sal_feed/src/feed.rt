@@ -15,12 +15,12 @@ use thiserror::Error;
 
 type Line = RuledArrayQueue<Note, Log, InOrder, Global>;
 
-/// As many notes wait as may.
+/// The most notifications that may wait do.
 #[derive(Clone, Copy, Debug, PartialEq, Eq, Error)]
 #[error("the feed is full")]
 pub struct Full;
 
-/// A queue of notes between two seats.
+/// A queue of notifications between two seats.
 #[derive(Drop)]
 pub struct Feed {
     line: Line,
@@ -74,7 +74,7 @@ impl Model for TakeSeat {
 }
 
 impl Feed {
-    /// A feed in which so many notes may wait, and its two seats.
+    /// A feed in which `capacity` notifications may wait, and its two seats.
     pub fn open<R: Wait>(
         _rt: &R,
         alloc: Global,
@@ -91,7 +91,7 @@ impl Feed {
         Ok((Feed { line }, OfferSeat { pass }, TakeSeat { pass: other }))
     }
 
-    /// Puts the note at the end, or gives it back where at one moment of this call as many waited as may. It takes no memory.
+    /// Appends the notification, or returns it if at one moment of this call the feed was full. It takes no memory.
     pub fn offer<R: Wait>(
         &self,
         rt: &R,
@@ -108,7 +108,7 @@ impl Feed {
         }
     }
 
-    /// Takes the note at the front; none where at one moment of this call nothing waited. It takes no memory.
+    /// Takes the first notification; none if at one moment of this call the feed was empty. It takes no memory.
     pub fn take<R: Wait>(&self, rt: &R, seat: &mut TakeSeat) -> Option<Note>
         requires { seat.old.feed ≡ self.now.id }
         ensures feed { seat.new.feed ≡ seat.old.feed }
@@ -117,7 +117,7 @@ impl Feed {
         self.line.pop_as::<Takes, R>(rt, &mut seat.pass)
     }
 
-    /// The notes that are left, with both seats at an end. Without memory for them all is as it was.
+    /// The remaining notifications; both seats end. If memory runs out for them, nothing changes.
     pub fn finish<R: Wait>(
         self,
         rt: &R,
@@ -137,9 +137,27 @@ impl Feed {
         self.line.absorb::<Roles>(&mut pass, other);
         Ok(Seq::from_items(emptied(rt, &self.line, pass, room)))
     }
+
+    /// The notes that are left, with both seats at an end. Without memory for them they are dropped.
+    pub fn rest<R: Wait>(
+        self,
+        rt: &R,
+        alloc: Global,
+        offered: OfferSeat,
+        taken: TakeSeat,
+    ) -> Result<NoteList, NoMemory>
+        requires offered { offered.feed ≡ self.id }
+        requires taken { taken.feed ≡ self.id }
+        ensures { IfOk result (λ left. offered.offered ≡ taken.taken ++ left) }
+    {
+        match self.finish(rt, alloc, offered, taken) {
+            Ok(left) => Ok(left),
+            Err((_, _, _, refused)) => Err(refused),
+        }
+    }
 }
 
-// Takes what is left into the room, by a seat with both rights.
+// Takes the remaining notifications into the list, by a seat with both rights.
 fn emptied<R: Wait>(
     rt: &R,
     line: &Line,
@@ -150,7 +168,7 @@ fn emptied<R: Wait>(
     requires room { (room.items ≡ []) × (ruled_capacity line.now ≤ vec_capacity room) }
     ensures { (view pass).offered ≡ (view pass).taken ++ result.items }
 {
-    // For the proof alone: it says that the room is enough.
+    // For the proof alone: it says that the list's capacity is enough.
     let _ = line.len_as::<Empties, R>(rt, &mut pass);
     for _ in rt.forever() {
         match line.pop_as::<Empties, R>(rt, &mut pass) {

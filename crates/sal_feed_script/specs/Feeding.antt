@@ -1,4 +1,4 @@
--- The text of `feed N C`: N notes were taken, and the sum of their numbers.
+-- The text of `feed N C`: N notifications were taken, and the sum of their numbers.
 use Rattle.std.specs.Prelude.{ℕ, ◌-◌, ◌*◌, ◌/◌, List, [], ◌∷◌, ◌++◌, codes, decimal}
 
 -- the sum of the numbers from 0 to n - 1

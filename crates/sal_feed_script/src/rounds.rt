@@ -1,10 +1,10 @@
-//! Rounds in which one half offers notes, and the other takes them.
-ghost use Rattle.std.specs.Prelude.{◌≡◌, ◌≤◌, ◌++◌, IfOk};
+//! Rounds in which one half offers notifications, and the other takes them.
+ghost use Rattle.std.specs.Prelude.{◌≡◌, ◌≤◌, IfOk};
 ghost use Rattle.sal_feed_script.specs.Feeding.{sum_below};
 ghost use Rattle.sal_feed_script.specs.Halves.{IsOffered, IsTaken};
 
 use sal_feed::{Feed, OfferSeat, TakeSeat};
-use sal_note::{Note, NoteList};
+use sal_note::Note;
 use sal_rows::Rows;
 use sal_types::NoMemory;
 use std::alloc::Global;
@@ -12,14 +12,14 @@ use std::sync::Wait;
 use std::thread;
 use std::thread::Threads;
 
-/// The half that offers: its seat, and the number of the next note.
+/// The half that offers: its seat, and the number of the next notification.
 #[derive(Drop)]
 pub(crate) struct Offered {
     pub(crate) seat: OfferSeat,
     pub(crate) next: u32,
 }
 
-/// The half that takes: its seat, how many notes it took, and the sum of their numbers.
+/// The half that takes: its seat, how many notifications it took, and the sum of their numbers.
 #[derive(Drop)]
 pub(crate) struct Taken {
     pub(crate) seat: TakeSeat,
@@ -27,7 +27,7 @@ pub(crate) struct Taken {
     pub(crate) sum: u64,
 }
 
-/// The sum of the numbers of so many notes, each of which was offered and taken.
+/// The sum of the numbers of `notes` notifications, each of which was offered and taken.
 pub(crate) fn sum_taken<R: Threads + Wait + Sync>(
     rt: &R,
     alloc: Global,
@@ -51,29 +51,11 @@ pub(crate) fn sum_taken<R: Threads + Wait + Sync>(
     };
     let (offered, taken) = all_rounds(rt, alloc, &feed, notes, (offered, taken));
     let sum = taken.sum;
-    let _ = finished(rt, alloc, feed, offered.seat, taken.seat)?;
+    let _ = feed.rest(rt, alloc, offered.seat, taken.seat)?;
     Ok(sum)
 }
 
-// Both halves at the end, with nothing but the notes that are left.
-fn finished<R: Wait>(
-    rt: &R,
-    alloc: Global,
-    feed: Feed,
-    offers: OfferSeat,
-    takes: TakeSeat,
-) -> Result<NoteList, NoMemory>
-    requires offers { offers.feed ≡ feed.id }
-    requires takes { takes.feed ≡ feed.id }
-    ensures { IfOk result (λ left. offers.offered ≡ takes.taken ++ left) }
-{
-    match feed.finish(rt, alloc, offers, takes) {
-        Ok(left) => Ok(left),
-        Err((_, _, _, refused)) => Err(refused),
-    }
-}
-
-// Rounds until all notes were taken.
+// Rounds until all notifications were taken.
 fn all_rounds<R: Threads + Wait + Sync>(
     rt: &R,
     alloc: Global,
@@ -127,7 +109,7 @@ fn one_round<R: Threads + Wait + Sync>(
     )
 }
 
-// Offers notes until the feed is full, or all are offered.
+// Offers notifications until the feed is full, or all are offered.
 fn offer_some<R: Wait>(rt: &R, alloc: Global, feed: &Feed, notes: u32, half: Offered) -> Offered
     requires { IsOffered feed.now notes half }
     ensures { IsOffered feed.now notes result }
@@ -142,7 +124,7 @@ fn offer_some<R: Wait>(rt: &R, alloc: Global, feed: &Feed, notes: u32, half: Off
     Offered { seat, next: notes }
 }
 
-// Takes notes until there is none, or all are taken.
+// Takes notifications until there is none, or all are taken.
 fn take_some<R: Wait>(rt: &R, feed: &Feed, notes: u32, half: Taken) -> Taken
     requires notes { notes ≤ 100000 }
     requires taken { IsTaken feed.now notes half }

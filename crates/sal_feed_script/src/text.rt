@@ -8,14 +8,14 @@ use std::alloc::Global;
 use std::sync::Wait;
 use std::thread::Threads;
 
-/// How many notes there are at most.
+/// The largest number of notifications.
 pub const MAX_NOTES: u32 = 100000;
 
-/// How many notes wait at most.
+/// The largest number of waiting notifications.
 pub const MAX_CAPACITY: u32 = 4096;
 
-/// Hands notes with the numbers from 0 to `notes - 1` over a feed in which at most `capacity` wait. The text says how many were taken, and the sum of
-/// their numbers.
+/// Passes notifications with the numbers from 0 to `notes - 1` through a feed in which at most `capacity` wait. The text has how many were taken,
+/// and the sum of their numbers.
 pub fn feed_text<R: Threads + Wait + Sync>(
     rt: &R,
     alloc: Global,

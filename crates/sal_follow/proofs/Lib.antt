@@ -1,5 +1,6 @@
 pub mod Advancing
 pub mod Behind
+pub mod Counted
 pub mod Exporting
 pub mod Feeding
 pub mod Followed
@@ -8,7 +9,6 @@ pub mod Fronts
 pub mod Heads
 pub mod JsonData
 pub mod KeepingUp
-pub mod Made
 pub mod NearTrees
 pub mod Places
 pub mod Plain

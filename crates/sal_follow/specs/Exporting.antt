@@ -1,4 +1,4 @@
--- How far an export is.
+-- The progress of an export.
 use Rattle.std.specs.Prelude.{◌≡◌, ℕ, List, ◌++◌, length, nat_le, true, false, slice_index_or, Some, Result, Ok, Err, ⊤}
 use Rattle.sal_types.specs.declared.row.Row.{Row}
 use Rattle.sal_rows.specs.declared.rows.patch.Patch.{Patch}
@@ -10,7 +10,7 @@ use Rattle.sal_follow.specs.Framed.{Trees, nothing, before_at, frame_of, frames_
 use Rattle.sal_follow.specs.Head.{max_text}
 use Rattle.sal_follow.specs.Written.{frame_text}
 
--- what sets a row
+-- the patch that sets a row
 abbrev pub patch_of : Row → Patch
 patch_of row = record { path = row.path; cell = Some row.cell }
 
@@ -22,14 +22,14 @@ frame_on trees k number = frame_of number (before_at trees k) (slice_index_or tr
 abbrev pub frame_at : List Trees → ℕ → Frame
 frame_at trees k = frame_on trees k k
 
--- A frame was put after bytes, with a text that reads as what was written; or its text is too long.
+-- A frame was appended, with a text that is read as it was written; or its text is too long.
 abbrev pub Puts : SchemaTable → Frame → List ℕ → List ℕ → Result ⊤ ExportFault → Type 0
 Puts table f old new (Ok done) = (new ≡ old ++ frame_bytes table f) × (nat_le (length (frame_text table f)) max_text ≡ true) × IsText table f
 Puts table f old new (Err (TooLong commit)) = (commit ≡ f.commit) × (nat_le (length (frame_text table f)) max_text ≡ false)
 Puts table f old new (Err NoMemory) = ⊤
 
--- these bytes are those of the frames from one commit on, before the commit k; each has a text that is not too long. The first frame has one number, and
--- that of the commit k another one.
+-- these bytes are those of the frames from one commit on, before the commit k; each has a text that is not too long. `first` is the number of the
+-- first frame, and `number` that of the commit k.
 pub record AreBetween (table : SchemaTable) (trees : List Trees) (from first : ℕ) (bytes : List ℕ) (k number : ℕ) : Type 0 where
   pub whole : bytes ++ bytes_of table (frames_on trees k number) ≡ bytes_of table (frames_on trees from first)
   pub short : too_long table (frames_on trees k number) ≡ too_long table (frames_on trees from first)

@@ -1,4 +1,4 @@
--- What is exported of commits: a frame for each, with what it changed.
+-- The export of commits: a frame for each, with its changes.
 use Rattle.std.specs.Prelude.{◌≡◌, ℕ, ◌+◌, List, [], ◌∷◌, map, flat_map, length, drop, slice_index_or, nat_le, Option, Some, None, Result, Ok, Err, ⊤, if◌then◌else◌}
 use Rattle.std.specs.Str.{IsUtf8}
 use Rattle.serde_json.specs.Read.{read}
@@ -30,11 +30,11 @@ trees_of commit = trees_of_pair commit.trees
 
 -- ---- frames
 
--- what a change sets
+-- the patch of a change
 abbrev pub patch_by : Change → Patch
 patch_by c = record { path = c.path; cell = c.after }
 
--- what leads from one tree to the next
+-- the patches from one tree to the next
 abbrev pub patches : List Row → List Row → List Patch
 patches before after = map patch_by (changes before after)
 
@@ -83,7 +83,7 @@ abbrev pub too_long : SchemaTable → List Frame → Option ℕ
 too_long table [] = None
 too_long table (f ∷ fs) = if nat_le (length (frame_text table f)) max_text then too_long table fs else Some f.commit
 
--- the text of the frame is UTF-8, and reads as what was written
+-- the text of the frame is UTF-8, and is read as it was written
 abbrev pub IsText : SchemaTable → Frame → Type 0
 IsText table f = IsUtf8 (frame_text table f) × (read (frame_text table f) ≡ Some (frame_json table f))
 
@@ -91,20 +91,20 @@ abbrev pub AreTexts : SchemaTable → List Frame → Type 0
 AreTexts table [] = ⊤
 AreTexts table (f ∷ fs) = IsText table f × AreTexts table fs
 
--- these frames, each with a text that reads as what was written; or the first commit whose text is too long
+-- these frames, each with a text that is read as it was written; or the first commit whose text is too long
 abbrev pub AreExported : SchemaTable → List Frame → Result (List ℕ) ExportFault → Type 0
 AreExported table fs (Ok bytes) = (bytes ≡ bytes_of table fs) × (too_long table fs ≡ None) × AreTexts table fs
 AreExported table fs (Err (TooLong commit)) = too_long table fs ≡ Some commit
 AreExported table fs (Err NoMemory) = ⊤
 
--- What `export` answers for commits with these trees: all frames.
+-- The result of `export` for commits with these trees: all frames.
 abbrev pub Exports : SchemaTable → List Trees → Result (List ℕ) ExportFault → Type 0
 Exports table trees result = AreExported table (frames trees) result
 
--- What `export_on` answers: the frames from the commit k on, of which the first has this number.
+-- The result of `export_on`: the frames from the commit k on, the first with this number.
 abbrev pub ExportsOn : SchemaTable → List Trees → ℕ → ℕ → Result (List ℕ) ExportFault → Type 0
 ExportsOn table trees k number result = AreExported table (frames_on trees k number) result
 
--- What `export_since` answers: the frames from the commit of this number on.
+-- The result of `export_since`: the frames from the commit of this number on.
 abbrev pub ExportsSince : SchemaTable → List Trees → ℕ → Result (List ℕ) ExportFault → Type 0
 ExportsSince table trees k result = ExportsOn table trees k k result

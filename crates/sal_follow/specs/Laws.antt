@@ -28,19 +28,19 @@ FramesAreRead =
     (text rest : List ℕ) → length text ≤ max_text
     → (front (framed text ++ rest) ≡ Whole (length text)) × (text_in (framed text ++ rest) (length text) ≡ text) × (drop (size_of (length text)) (framed text ++ rest) ≡ rest)
 
--- Whatever the pieces, what is held after them is what is held after their bytes.
+-- The state after the pieces is the state after their bytes.
 abbrev pub PiecesDoNotMatter : Type 0
 PiecesDoNotMatter = (table : SchemaTable) (h : Held) (pieces : List (List ℕ)) → fold (followed table) h pieces ≡ followed table h (concat pieces)
 
--- Between two frames: what is held after the bytes of one, and more, is what is held after the more by one that has taken the frame.
+-- Between two frames: the state after the bytes of one, and more, is the state after the more from that after the frame.
 abbrev pub TakesWholeFrames : Type 0
 TakesWholeFrames =
     (table : SchemaTable) (h : Held) (bytes : List ℕ) (n : ℕ) → h.fault ≡ None → h.rest ≡ [] → front bytes ≡ Whole n
     → followed table h bytes ≡ followed table (taken table h (size_of n) (text_in bytes n)) (drop (size_of n) bytes)
 
--- ---- what is written reads as what it was
+-- ---- what is written is read
 
--- the values of keys, each of which reads as it is written
+-- the values of keys, each of which is read as it was written
 abbrev pub AreReadable : SchemaTable → List ℕ → List Value → Type 0
 AreReadable table [] [] = Unit {0}
 AreReadable table (leaf ∷ leafs) (value ∷ values) = IsReadable table leaf value × AreReadable table leafs values
@@ -52,35 +52,35 @@ IsReadableStep table (Some n) (Key values) = AreReadable table (keys_of table n)
 IsReadableStep table (Some n) (Item value) = IsReadable table n value
 IsReadableStep table None step = ⊥
 
--- steps after a node: numbers of nodes have 32 bits, and keys and items read as they are written
+-- steps after a node: numbers of nodes have 32 bits, and keys and items are read as they were written
 abbrev pub IsReadableFrom : SchemaTable → Option ℕ → List Step → Type 0
 IsReadableFrom table here [] = Unit {0}
 IsReadableFrom table here (step ∷ path) = IsReadableStep table here step × IsReadableFrom table (node_from here (step ∷ [])) path
 
--- A path that fits, with readable values, reads as it is written.
+-- A path that fits, with readable values, is read as it was written.
 abbrev pub PathsReadAsWritten : Type 0
 PathsReadAsWritten =
     (table : SchemaTable) (path : List Step) → length path ≤ 32 → IsTrue (fits_path table path) → IsReadableFrom table None path
     → path_in table (path_json table path) ≡ Some path
 
--- a cell, or none, that a path may have, of a value that reads as it is written
+-- a cell, or none, that a path may have, with a value that is read as it was written
 abbrev pub IsReadableCell : SchemaTable → List Step → Option Cell → Type 0
 IsReadableCell table path None = has_own_row table path ≡ true
 IsReadableCell table path (Some Mark) = has_mark table (last_step path) ≡ true
 IsReadableCell table path (Some (Leaf value)) = (n : ℕ) × (last_step path ≡ Some (Node n)) × (is_kind is_leaf table n ≡ true) × IsReadable table n value
 
--- So does a cell.
+-- So is a cell.
 abbrev pub CellsReadAsWritten : Type 0
 CellsReadAsWritten = (table : SchemaTable) (path : List Step) (cell : Option Cell) → IsReadableCell table path cell → cell_in table path (cell_json table (node_of path) cell) ≡ Some cell
 
--- ---- what is exported is followed
+-- ---- what is exported can be followed
 
--- the value of a row, if it has one, reads as it is written
+-- the value of a row, if it has one, is read as it was written
 abbrev pub IsReadableValue : SchemaTable → Option Step → Cell → Type 0
 IsReadableValue table (Some (Node n)) (Leaf value) = IsReadable table n value
 IsReadableValue table step cell = ⊤
 
--- a row of few steps, whose keys, items and value read as they are written
+-- a row of at most 32 steps, whose keys, items and value are read as they were written
 pub record IsReadableRow (table : SchemaTable) (row : Row) : Type 0 where
   pub short : length row.path ≤ 32
   pub path : IsReadableFrom table None row.path
@@ -106,17 +106,17 @@ abbrev pub AreTreesAt : List Trees → Option ℕ → Trees → Type 0
 AreTreesAt trees None held = held ≡ nothing
 AreTreesAt trees (Some k) held = slice_get trees k ≡ Some held
 
--- no fault, and the trees of the commit that is held
+-- no fault, and the trees of the follower's commit
 abbrev pub HoldsOneOf : List Trees → Held → Type 0
 HoldsOneOf trees h = (h.fault ≡ None) × AreTreesAt trees h.version (trees_held h)
 
--- A follower of a prefix of an export has no fault, and holds the leader's trees at the commit that it says.
+-- A follower of a prefix of an export has no fault, and has the leader's trees at its commit.
 abbrev pub ExportsAreFollowed : Type 0
 ExportsAreFollowed =
     (table : SchemaTable) (trees : List Trees) → All (AreFollowed table) trees → AreTexts table (frames trees) → too_long table (frames trees) ≡ None
     → (bytes more : List ℕ) → bytes ++ more ≡ exported table trees → HoldsOneOf trees (followed table fresh bytes)
 
--- A follower of a whole export holds the trees of the last commit, and waits for the next frame.
+-- A follower of a whole export has the trees of the last commit, and no bytes of an incomplete frame.
 abbrev pub HoldsTheLast : Type 0
 HoldsTheLast =
     (table : SchemaTable) (trees : List Trees) (last : Trees) → All (AreFollowed table) (trees ++ last ∷ []) → AreTexts table (frames (trees ++ last ∷ [])) → too_long table (frames (trees ++ last ∷ [])) ≡ None
@@ -127,14 +127,15 @@ HoldsTheLast =
 abbrev pub StreamsGoOn : Type 0
 StreamsGoOn = (table : SchemaTable) (trees : List Trees) (k : ℕ) → k ≤ length trees → exported table (take k trees) ++ bytes_of table (frames_since trees k) ≡ exported table trees
 
--- A stream that ends with the frame of a commit goes on with the frames of later trees, wherever these come from: numbered on, they are the frames of all.
+-- A stream that ends with the frame of a commit continues with the frames of later trees, from anywhere: with the next numbers, they are the
+-- frames of all.
 abbrev pub StreamsGoOnAfter : Type 0
 StreamsGoOnAfter =
     (table : SchemaTable) (trees : List Trees) (last : Trees) (more : List Trees) → exported table (trees ++ last ∷ []) ++ bytes_of table (frames_from (length trees + 1) last more) ≡ exported table (trees ++ last ∷ more)
 
--- ---- places
+-- ---- offsets
 
--- The place of the unfinished frame, and its bytes, are no more than the bytes that came; without a fault they are as many.
+-- The offset of the incomplete frame, plus its bytes, is at most the number of bytes received; without a fault they are equal.
 abbrev pub PlacesCountBytes : Type 0
 PlacesCountBytes =
     (table : SchemaTable) (bytes : List ℕ) → ((followed table fresh bytes).at + length (followed table fresh bytes).rest ≤ length bytes)

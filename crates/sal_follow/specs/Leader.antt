@@ -1,4 +1,4 @@
--- A follower keeps up with its leader.
+-- A follower has its leader's trees.
 use Rattle.std.specs.Prelude.{◌≡◌, ◌⊎◌, ℕ, List, ◌++◌, Option, None, Result, Ok, Err}
 use Rattle.std.specs.List.{All}
 use Rattle.sal_follow.specs.declared.fault.FollowFault.{FollowFault}
@@ -8,8 +8,8 @@ use Rattle.sal_follow.specs.Laws.{AreFollowed, HoldsOneOf}
 use Rattle.sal_follow.specs.States.{Following}
 use Rattle.sal_follow.specs.Stream.{fresh, followed}
 
--- Where the bytes so far, and the piece, are a prefix of an export of a leader's commits by the follower's schema, the follower holds the
--- leader's trees at the commit that it answers, unless memory ran out.
+-- If the bytes so far, with the piece, are a prefix of an export of a leader's commits by the follower's schema, the follower has the
+-- leader's trees at the commit that it returns, unless memory ran out.
 abbrev pub KeepsUp : List ℕ → Following → Following → Result (Option ℕ) FollowFault → Type 0
 KeepsUp piece old new result =
     (trees : List Trees) (before more : List ℕ) → All (AreFollowed old.schema) trees → AreTexts old.schema (frames trees) → too_long old.schema (frames trees) ≡ None

@@ -1,5 +1,6 @@
 pub mod Examples
 pub mod Exporting
+pub mod Fed
 pub mod Framed
 pub mod Frames
 pub mod Front

@@ -1,4 +1,4 @@
--- What a follower keeps, seen as what it holds.
+-- The code's state of a follower, as its definition.
 use Rattle.std.specs.Prelude.{◌≡◌, ◌⊎◌, ℕ, ◌≤◌, Option, Some, None, List, [], length, drop, Result, Err, true, ⊤, if◌then◌else◌}
 use Rattle.sal_rows.specs.declared.rows.patch.Patch.{Patch}
 use Rattle.sal_rows.specs.Patch.{patched}
@@ -19,7 +19,7 @@ use Rattle.sal_follow.specs.Stream.{Held, next, are_trees, followed, answer}
 abbrev pub held : State → List ℕ → Held
 held s rest = record { version = s.version; config = s.config; oper = s.oper; at = s.at; rest = rest; fault = s.fault }
 
--- the trees after a frame, where they are trees of the schema
+-- the trees after a frame, if they are trees of the schema
 abbrev pub trees_after : SchemaTable → Both → List Patch → List Patch → Option Both
 trees_after table b config oper = if are_trees table (patched b.config config) (patched b.oper oper) then Some (record { config = patched b.config config; oper = patched b.oper oper }) else None
 
@@ -28,11 +28,11 @@ pub record FrameFits (table : SchemaTable) (f : Frame) : Type 0 where
   pub config : patches_fit table f.config ≡ true
   pub oper : patches_fit table f.oper ≡ true
 
--- each frame has at least ten bytes, so the numbers of commits stay below the places of their frames
+-- each frame has at least ten bytes, so the numbers of commits are below the offsets of their frames
 abbrev pub IsWithin : State → Type 0
 IsWithin s = next s.version ≤ s.at
 
--- the trees held are trees of the schema
+-- the trees are trees of the schema
 abbrev pub HasTrees : SchemaTable → State → Type 0
 HasTrees table s = are_trees table s.config s.oper ≡ true
 
@@ -41,20 +41,20 @@ abbrev pub IsSpare : State → Option Both → Type 0
 IsSpare s None = ⊤
 IsSpare s (Some b) = (b.config ≡ s.config) × (b.oper ≡ s.oper)
 
--- what a follower keeps between two pieces
+-- the invariant of a follower between two pieces
 pub record IsTwin (table : SchemaTable) (twin : Twin) : Type 0 where
   pub within : IsWithin twin.state
   pub trees : HasTrees table twin.state
   pub spare : IsSpare twin.state twin.spare
 
--- what a run keeps: its log leads from the trees at its start to those held
+-- the invariant of a run: its log leads from the trees at its start to its present ones
 pub record IsSound (table : SchemaTable) (start : State) (run : Run) : Type 0 where
   pub within : IsWithin run.state
   pub trees : HasTrees table run.state
   pub config : run.state.config ≡ patched start.config run.log.config.items
   pub oper : run.state.oper ≡ patched start.oper run.log.oper.items
 
--- what is sound from any start stays so
+-- a run that is sound from any start stays so
 abbrev pub StaysSound : Run → Run → Type 0
 StaysSound old new = (table : SchemaTable) (start : State) → IsSound table start old → IsSound table start new
 
@@ -62,14 +62,14 @@ StaysSound old new = (table : SchemaTable) (start : State) → IsSound table sta
 abbrev pub nothing_held : State
 nothing_held = record { version = None; config = []; oper = []; at = 0; fault = None }
 
--- after so many of these bytes the state is s, and the bytes left are those of an unfinished frame
+-- after `used` of these bytes the state is s, and the remaining bytes are those of an incomplete frame
 pub record IsStepped (table : SchemaTable) (start : State) (bytes : List ℕ) (s : State) (used : ℕ) : Type 0 where
   pub state : held s (drop used bytes) ≡ followed table (held start []) bytes
   pub part : front (drop used bytes) ≡ Part
   pub inside : used ≤ length bytes
   pub within : IsWithin s
 
--- after these bytes the state is s, and these are left of them
+-- after these bytes the state is s, and these of them remain
 abbrev pub IsJudged : SchemaTable → State → List ℕ → State → List ℕ → Type 0
 IsJudged table start bytes s left = (used : ℕ) × IsStepped table start bytes s used × (left ≡ drop used bytes)
 
@@ -79,12 +79,12 @@ pub record IsGained (table : SchemaTable) (start : State) (before piece : List �
   pub part : front rest ≡ Part
   pub within : IsWithin s
 
--- a follower: the schema that it reads by, and what it holds
+-- a follower: its schema and its state
 pub record Following : Type 0 where
   pub schema : SchemaTable
   pub held : Held
 
--- What a piece does: it is taken as the bytes that it is, and the answer is that of what is held then; or memory ran out, and nothing of it
+-- The effect of a piece: the state is that after its bytes, and the answer is that of the new state; or memory ran out, and nothing of it
 -- was taken.
 abbrev pub Feeds : List ℕ → Following → Following → Result (Option ℕ) FollowFault → Type 0
 Feeds piece old new result =

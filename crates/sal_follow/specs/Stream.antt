@@ -1,5 +1,5 @@
--- What a follower holds of a stream of frames. It is said byte by byte: a frame is judged at the byte with which it, or its head, is
--- there. So pieces have no meaning.
+-- The state of a follower of a stream of frames, byte by byte: a frame is checked at the byte that completes it, or its head.
+-- So the split into pieces does not matter.
 use Rattle.std.specs.Prelude.{ℕ, ◌+◌, ◌==◌, ◌&&◌, Bool, not, List, [], ◌∷◌, ◌++◌, Option, Some, None, is_some, Result, Ok, Err, if◌then◌else◌}
 use Rattle.std.specs.List.{fold, list_any}
 use Rattle.std.specs.Option.{option_map_or}
@@ -17,7 +17,7 @@ use Rattle.sal_follow.specs.declared.front.Front.TheVariants.{Part, Broken, Whol
 use Rattle.sal_follow.specs.Frames.{frame_in}
 use Rattle.sal_follow.specs.Front.{front, text_in, size_of}
 
--- The commit held and its trees; the bytes of an unfinished frame, with the place of the first of them in the stream; and the first
+-- The commit and its trees; the bytes of an incomplete frame, with the offset of the first of them in the stream; and the first
 -- fault, after which nothing changes.
 pub record Held : Type 0 where
   pub version : Option ℕ
@@ -53,19 +53,19 @@ moved h size k config oper = record { version = Some k; config = config; oper = 
 abbrev pub if_trees : SchemaTable → Held → ℕ → ℕ → List Row → List Row → Held
 if_trees table h size k config oper = if are_trees table config oper then moved h size k config oper else failed h (BadFrame h.at)
 
--- each cell of the frame set or made absent, where the frame is the next one
+-- each cell of the frame set or removed, if the frame is the next one
 abbrev pub if_next : SchemaTable → Held → ℕ → Frame → Held
 if_next table h size f =
     if f.commit == next h.version then if_trees table h size f.commit (patched h.config f.config) (patched h.oper f.oper)
     else failed h (Gap (next h.version) f.commit)
 
--- after the frame of this text, of so many bytes
+-- after the frame of this text, of `size` bytes
 abbrev pub taken : SchemaTable → Held → ℕ → List ℕ → Held
 taken table h size text = option_map_or (if_next table h size) (frame_in table text) (failed h (BadFrame h.at))
 
 -- ---- bytes
 
--- the bytes of the unfinished frame, judged
+-- the bytes of the incomplete frame, checked
 abbrev pub judged : SchemaTable → Held → Front → Held
 judged table h Part = h
 judged table h Broken = failed h (BadFrame h.at)
@@ -86,6 +86,6 @@ abbrev pub rows_held : Held → Store → List Row
 rows_held h Config = h.config
 rows_held h Oper = h.oper
 
--- what a follower answers: the commit held, or the fault
+-- a follower's answer: its commit, or the fault
 abbrev pub answer : Held → Result (Option ℕ) FollowFault
 answer h = option_map_or (λ fault. Err fault) h.fault (Ok h.version)

@@ -21,7 +21,7 @@ abbrev pub keys_json : SchemaTable → List ℕ → List Value → List Data
 keys_json table (leaf ∷ leafs) (value ∷ values) = scalar_json table leaf value ∷ keys_json table leafs values
 keys_json table leafs values = []
 
--- the value of a leaf or of an entry of a leaf-list, if a node is there
+-- the value of a leaf or of an entry of a leaf-list, if there is a node
 abbrev pub value_json : SchemaTable → Option ℕ → Value → Data
 value_json table here value = option_map_or (λ n. scalar_json table n value) here null
 

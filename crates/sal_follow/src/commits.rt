@@ -1,4 +1,4 @@
-//! What the commits of a domain changed, as frames.
+//! The changes of a domain's commits, as frames.
 ghost use Rattle.std.specs.Prelude.{◌≡◌, ◌<◌, [], length, map, IfOk};
 ghost use Rattle.sal_tree.specs.Follows.{Agree};
 ghost use Rattle.sal_tree.specs.Rows.{rows_of};
@@ -16,7 +16,7 @@ use sal_tree::{Commit, Pair, Root, tree_of};
 use sal_types::{Duplicate, NoMemory, Path, Row, Seq, Store, append};
 use std::alloc::Global;
 
-// What the changes set.
+// The patches of the changes.
 fn patches_by(alloc: Global, list: ChangeList) -> Result<Seq<Patch>, NoMemory>
     ensures { IfOk result (λ ps. ps ≡ map spec.patch_by list) }
 {
@@ -28,7 +28,7 @@ fn patches_by(alloc: Global, list: ChangeList) -> Result<Seq<Patch>, NoMemory>
     Ok(Seq::from_items(patches))
 }
 
-// What a change sets.
+// The patch of a change.
 fn patch_by(change: Change) -> Patch
     ensures { result ≡ spec.patch_by change }
 {
@@ -38,7 +38,7 @@ fn patch_by(change: Change) -> Patch
     }
 }
 
-// What leads from one tree to the next.
+// The patches from one tree to the next.
 fn patches_between(alloc: Global, before: &Root, after: &Root) -> Result<Seq<Patch>, NoMemory>
     requires { Agree before.now after.now }
     ensures { IfOk result (λ ps. ps ≡ spec.patches (rows_of before.now) (rows_of after.now)) }
@@ -48,7 +48,7 @@ fn patches_between(alloc: Global, before: &Root, after: &Root) -> Result<Seq<Pat
     Ok(patches)
 }
 
-// What sets a row.
+// The patch that sets a row.
 fn patch_of(row: &Row) -> Result<Patch, NoMemory>
     ensures { IfOk result (λ p. p ≡ patch_of row.now) }
 {
@@ -59,7 +59,7 @@ fn patch_of(row: &Row) -> Result<Patch, NoMemory>
     })
 }
 
-// What sets each row.
+// The patches that set each row.
 fn patches_of(alloc: Global, rows: &Rows) -> Result<Seq<Patch>, NoMemory>
     ensures { IfOk result (λ ps. ps ≡ map patch_of rows.now) }
 {
@@ -71,7 +71,7 @@ fn patches_of(alloc: Global, rows: &Rows) -> Result<Seq<Patch>, NoMemory>
     Ok(Seq::from_items(patches))
 }
 
-// What leads to the first tree.
+// The patches from no rows to the first tree.
 fn opening_patches(alloc: Global, root: &Root) -> Result<Seq<Patch>, NoMemory>
     ensures { IfOk result (λ ps. ps ≡ spec.patches [] (rows_of root.now)) }
 {
@@ -95,7 +95,7 @@ fn opening_frame(alloc: Global, trees: &Pair) -> Result<Frame, NoMemory>
     })
 }
 
-// The frame of a commit of this number, by the trees before it and after it.
+// The frame of the commit with this number, from the trees before and after it.
 fn frame_between(alloc: Global, commit: u64, before: &Pair, after: &Pair) -> Result<Frame, NoMemory>
     requires { AgreeBoth before.now after.now }
     ensures { IfOk result (λ f. f ≡ spec.frame_of commit (spec.trees_of_pair before.now) (spec.trees_of_pair after.now)) }
@@ -109,7 +109,7 @@ fn frame_between(alloc: Global, commit: u64, before: &Pair, after: &Pair) -> Res
     })
 }
 
-/// The frame of the commit of this number.
+/// The frame of the commit with this number.
 pub(crate) fn frame_at(alloc: Global, commits: &[Commit], number: u64) -> Result<Frame, NoMemory>
     requires agreed { AreAgreed commits.now }
     requires inside { number < length commits.now }
@@ -124,7 +124,7 @@ pub(crate) fn frame_at(alloc: Global, commits: &[Commit], number: u64) -> Result
     }
 }
 
-// What leads from the tree of a store before a commit to that after it, by its operations.
+// The patches of a store from the tree before a commit to that after it, by its operations.
 fn patches_made(
     alloc: Global,
     before: &Commit,
@@ -146,7 +146,7 @@ fn patches_made(
     Ok(patches)
 }
 
-// The frame of a commit of this number, by its operations.
+// The frame of the commit with this number, by its operations.
 fn frame_made(
     alloc: Global,
     number: u64,
@@ -166,7 +166,7 @@ fn frame_made(
     })
 }
 
-/// The frame of the commit of this number, for commits that a domain keeps.
+/// The frame of the commit with this number, for commits that a domain keeps.
 pub(crate) fn frame_kept(alloc: Global, commits: &[Commit], number: u64) -> Result<Frame, NoMemory>
     requires agreed { AreAgreed commits.now }
     requires kept { AreKept commits.now }

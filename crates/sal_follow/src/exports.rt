@@ -18,7 +18,7 @@ use sal_tree::Commit;
 use sal_types::{Bytes, NoMemory, Seq};
 use std::alloc::Global;
 
-// Puts the frame of a text at the end.
+// Appends the frame of a text.
 fn push_frame(bytes: &mut Vec<u8>, text: &[u8]) -> Result<(), NoMemory>
     requires { length text.now ≤ max_text }
     ensures { OnOk result (bytes.new.items ≡ bytes.old.items ++ framed text.now) }
@@ -29,7 +29,7 @@ fn push_frame(bytes: &mut Vec<u8>, text: &[u8]) -> Result<(), NoMemory>
     Ok(())
 }
 
-// Puts a frame at the end.
+// Appends a frame.
 fn push_text(bytes: &mut Vec<u8>, writer: &Writer, frame: &Frame) -> Result<(), ExportFault>
     ensures { Puts writer.now.schema.now frame.now bytes.old.items bytes.new.items result }
 {
@@ -43,7 +43,7 @@ fn push_text(bytes: &mut Vec<u8>, writer: &Writer, frame: &Frame) -> Result<(), 
     Ok(())
 }
 
-// Puts the frame of the commit of this number at the end.
+// Appends the frame of the commit with this number.
 fn push_commit(
     bytes: &mut Vec<u8>,
     writer: &Writer,
@@ -58,7 +58,7 @@ fn push_commit(
     push_text(bytes, writer, &frame)
 }
 
-// Puts the next frame at the end, for commits that a domain keeps.
+// Appends the next frame, for commits that a domain keeps.
 fn push_kept(
     bytes: &mut Vec<u8>,
     writer: &Writer,
@@ -75,7 +75,7 @@ fn push_kept(
     push_text(bytes, writer, &frame)
 }
 
-// The number of the frame after one. If there is none, memory runs out.
+// The number of the frame after one. `NoMemory` if there is none.
 fn following(number: u64) -> Result<u64, NoMemory>
     ensures { IfOk result (λ next. next ≡ number + 1) }
 {
@@ -87,7 +87,7 @@ fn following(number: u64) -> Result<u64, NoMemory>
 
 /// The frames of a domain's commits, from its opening to the newest.
 ///
-/// Two nodes at one path with one stamp must be the same in two neighbours, as they are in the commits of a domain.
+/// If two neighbouring commits have one stamp at a path, the nodes there must be equal, as they are in the commits of a domain.
 pub fn export(alloc: Global, schema: &Schema, commits: &[Commit]) -> Result<Bytes, ExportFault>
     requires { AreAgreed commits.now }
     ensures { Exports schema.now (map trees_of commits.now) result }
@@ -100,9 +100,9 @@ pub fn export(alloc: Global, schema: &Schema, commits: &[Commit]) -> Result<Byte
     Ok(Seq::from_items(bytes))
 }
 
-/// The same for the commits that a domain keeps, at the cost of what each of them changed.
+/// The same for the commits that a domain keeps, at the cost of the changes of each.
 ///
-/// Each commit has the trees that its operations make of those before it, so they say where these differ.
+/// The trees of each commit result from its operations, so the operations say where these differ.
 pub fn export_kept(alloc: Global, schema: &Schema, commits: &[Commit]) -> Result<Bytes, ExportFault>
     requires agreed { AreAgreed commits.now }
     requires kept { AreKept commits.now }
@@ -129,7 +129,7 @@ pub fn export_since(
     export_on(alloc, schema, commits, next)
 }
 
-/// The frames from a commit on, numbered from the number of the next frame on: what a stream goes on with whose earlier frames were those of other
+/// The frames from a commit on, numbered from the number of the next frame on: the continuation of a stream whose earlier frames were those of other
 /// commits, as over epochs. Its frames before must lead to the trees before that commit (`laws::streams_go_on_after`).
 pub fn export_on(
     alloc: Global,

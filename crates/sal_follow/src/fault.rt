@@ -2,13 +2,13 @@
 use sal_types::NoMemory;
 use thiserror::Error;
 
-/// Why a piece of a stream was not taken, or a follower does not continue.
+/// Why a piece of a stream was refused, or a follower does not continue.
 #[derive(Clone, Copy, Debug, PartialEq, Eq, Error)]
 pub enum FollowFault {
-    /// The bytes from this place of the stream on are no frame, or the trees after it would not be trees of the schema.
+    /// The bytes from this offset of the stream on are not a frame, or the trees after it would not be trees of the schema.
     #[error("no frame begins at byte {at}")]
     BadFrame { at: u64 },
-    /// A frame has another number than the next one.
+    /// The number of the frame is not the next one.
     #[error("commit {got} came where commit {want} was next")]
     Gap { want: u64, got: u64 },
     #[error("out of memory")]

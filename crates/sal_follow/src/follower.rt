@@ -22,7 +22,7 @@ use std::alloc::Global;
 use std::marker::Model;
 use std::sync::Arc;
 
-/// A copy of a domain, from the frames of its commits.
+/// A copy of a domain, built from the frames of its commits.
 #[derive(Drop)]
 pub struct Follower {
     alloc: Global,
@@ -50,7 +50,7 @@ impl Model for Follower {
     ghost invariant = { λ f. (f.patterns ≡ patterns_of f.schema.value) × IsTwin f.schema.value f.twin × (front f.rest.items ≡ Part) };
 }
 
-// The bytes without the first ones.
+// The bytes after the first ones.
 fn cut(bytes: &mut Vec<u8>, used: usize)
     requires { used ≤ length bytes.old.items }
     ensures { bytes.new.items ≡ drop used bytes.old.items }
@@ -60,7 +60,7 @@ fn cut(bytes: &mut Vec<u8>, used: usize)
     bytes.truncate(len);
 }
 
-// Puts the piece at the end.
+// Appends the piece.
 fn append(rest: &mut Vec<u8>, piece: &[u8]) -> Result<(), NoMemory>
     ensures ok { OnOk result (rest.new.items ≡ rest.old.items ++ piece.now) }
     ensures err { OnErr result (rest.new.items ≡ rest.old.items) }
@@ -69,14 +69,14 @@ fn append(rest: &mut Vec<u8>, piece: &[u8]) -> Result<(), NoMemory>
     Ok(())
 }
 
-// The first bytes alone.
+// Keeps the first `len` bytes only.
 fn shortened(rest: &mut Vec<u8>, len: usize)
     ensures { rest.new.items ≡ take len rest.old.items }
 {
     rest.truncate(len);
 }
 
-// Takes all frames that are there, and leaves the bytes after them. Without memory only the first bytes are left, so many of them.
+// Takes all complete frames, and keeps the bytes after them. If memory runs out, only the first `before` bytes stay.
 fn judged(
     reader: &Reader,
     twin: &mut Twin,
@@ -101,7 +101,7 @@ fn judged(
     }
 }
 
-// Takes a piece, and leaves the bytes of an unfinished frame. Without memory all stays.
+// Takes a piece, and keeps the bytes of an incomplete frame. If memory runs out, nothing changes.
 fn gained(
     reader: &Reader,
     twin: &mut Twin,
@@ -137,7 +137,7 @@ fn answered(state: &State) -> Result<Option<u64>, FollowFault>
 }
 
 impl Follower {
-    /// A follower of a stream of which nothing came yet.
+    /// A follower at the start of a stream.
     pub fn new(alloc: Global, schema: Arc<Schema>, patterns: Patterns) -> Result<Follower, NoMemory>
         requires { patterns ≡ patterns_of schema.value }
         ensures { IfOk result (λ f. f ≡ record { schema = schema.value; held = fresh }) }
@@ -151,10 +151,10 @@ impl Follower {
         })
     }
 
-    /// Takes the next piece of the stream, and answers the commit held, none before frame 0.
+    /// Takes the next piece of the stream, and returns the follower's commit, none before frame 0.
     ///
-    /// If memory runs out nothing of the piece was taken. After another fault it holds the last good commit, and answers this fault from
-    /// then on.
+    /// If memory runs out, nothing of the piece was taken. After another fault the follower keeps the last valid commit, and returns this fault
+    /// from then on.
     pub fn feed(&mut self, piece: &[u8]) -> Result<Option<u64>, FollowFault>
         requires { self.old.held.at + length self.old.held.rest + length piece.now < 2 ^ 64 }
         ensures taken { Feeds piece.now self.old self.new result }
@@ -178,7 +178,7 @@ impl Follower {
         }
     }
 
-    /// The commit held. It takes no memory.
+    /// The follower's commit. It takes no memory.
     pub fn version(&self) -> Option<u64>
         ensures { result ≡ self.now.held.version }
     {
@@ -195,14 +195,14 @@ impl Follower {
         }
     }
 
-    /// The number of bytes of an unfinished frame; 0 after a fault. It takes no memory.
+    /// The number of bytes of an incomplete frame; 0 after a fault. It takes no memory.
     pub fn waiting(&self) -> u64
         ensures { result ≡ length self.now.held.rest }
     {
         self.rest.len() as u64
     }
 
-    /// The domain at the commit held, as a device of a new hub: its schema is version 0, and the trees are the opening. They are trees of the
+    /// The domain at the follower's commit, as a device of a new hub: its schema is version 0, and the trees are the opening. They are trees of the
     /// schema. It copies nothing, and takes no memory.
     pub fn into_device(self) -> Device
         ensures schema { result.schema.value ≡ self.schema }

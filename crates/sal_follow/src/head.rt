@@ -5,7 +5,7 @@ ghost use Rattle.sal_follow.specs.Head as spec;
 
 use sal_types::NoMemory;
 
-/// How many bytes the text of a frame has at most.
+/// The largest number of bytes of a frame's text.
 pub(crate) const MAX_TEXT: usize = 16_777_216;
 
 fn is_digit(c: u8) -> bool
@@ -20,7 +20,7 @@ fn are_digits(bytes: &[u8]) -> bool
     bytes.iter().all(|c| is_digit(*c))
 }
 
-// The number with one digit more.
+// The number with one more digit.
 fn with_digit(n: usize, c: u8) -> usize
     requires digit { IsTrue (spec.is_digit c) }
     requires small { n ≤ 99999999 }
@@ -30,7 +30,7 @@ fn with_digit(n: usize, c: u8) -> usize
     10 * n + (c - 48) as usize
 }
 
-// The number of eight digits.
+// The value of eight digits.
 fn value_of(digits: &[u8]) -> usize
     requires eight { length digits.now ≡ 8 }
     requires digits { IsTrue (list_all spec.is_digit digits.now) }
@@ -45,7 +45,7 @@ fn value_of(digits: &[u8]) -> usize
     }
 }
 
-/// The length of the text that the head at the front says.
+/// The length in the head at the front.
 pub(crate) fn length_in(bytes: &[u8]) -> Option<usize>
     requires { 9 ≤ length bytes.now }
     ensures { result ≡ spec.head_of bytes.now }
@@ -66,7 +66,7 @@ fn last_digit(n: usize) -> u8
     48 + (n % 10) as u8
 }
 
-/// Puts the head of a frame whose text has so many bytes at the end.
+/// Appends the head of a frame whose text has `len` bytes.
 pub(crate) fn push_head(bytes: &mut Vec<u8>, len: usize) -> Result<(), NoMemory>
     ensures { OnOk result (bytes.new.items ≡ bytes.old.items ++ spec.head len) }
 {

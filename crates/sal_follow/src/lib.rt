@@ -1,18 +1,18 @@
-//! A follower: a copy of a domain, held from frames of its commits.
+//! A follower: a copy of a domain, built from frames of its commits.
 //!
 //! | item | what it is |
 //! |---|---|
 //! | `export`, `ExportFault` | the frames of commits, as bytes; why there are none |
-//! | `export_kept`, `export_since` | the same of commits that a domain keeps, by their operations: all frames, and those from a commit on |
-//! | `export_on`, `NextFrame` | the frames from a commit on, numbered from any number on: a stream goes on with them over epochs |
-//! | `Follower` | takes such bytes in pieces, and holds the trees of the last commit that came; a contract sees its schema and what it holds |
-//! | `FollowFault` | why a stream is not followed |
-//! | `Frame`, `Front` | what the definitions speak of: a frame, and what bytes begin with |
+//! | `export_kept`, `export_since` | the same for commits that a domain keeps, by their operations: all frames, and those from a commit on |
+//! | `export_on`, `NextFrame` | the frames from a commit on, with any first number: they continue a stream over epochs |
+//! | `Follower` | takes such bytes in pieces, and has the trees of the last complete commit; a contract sees its schema and its state |
+//! | `FollowFault` | why a stream is refused |
+//! | `Frame`, `Front` | a frame; the frame at the front of bytes |
 //! | `laws`, `examples` | functions that do nothing, each with a law or a worked example as its contract |
 //!
-//! `specs/Frames` says which frame a text is, `specs/Written` how one is written, `specs/Framed` which frames commits have, and
-//! `specs/Stream` what is held after bytes: byte by byte, so pieces have no meaning. `laws::exports_are_followed` joins them: a follower of
-//! an export, in any pieces, holds the leader's trees.
+//! `specs/Frames` defines the frame of a text, `specs/Written` the text of a frame, `specs/Framed` the frames of commits, and
+//! `specs/Stream` the state after bytes: byte by byte, so the split into pieces does not matter. `laws::exports_are_followed` joins them: a
+//! follower of an export, in any pieces, has the leader's trees.
 //!
 //! ```
 //! let bytes = export_kept(alloc, &schema, &domain.commits)?;
@@ -23,16 +23,17 @@
 //!
 //! | call | cost |
 //! |---|---|
-//! | `export_kept`, `export_since`, `export_on` | frame 0: all rows of the opening; each other: what `changes_by` of `sal_delta` takes for a commit, by its operations, and the text of the changes |
-//! | `export` | the same, but what `changes` takes for a commit: it looks at all children of each node that changed, so at all entries of a list in which one did |
-//! | `Follower::feed` | each byte is looked at some times, whatever the pieces; each row of a frame: two searches by halves in its tree and two copies of the row, and what `sal_near` takes near it. A row that comes or goes moves those after it, twice |
+//! | `export_kept`, `export_since`, `export_on` | frame 0: all rows of the opening; each other one: `changes_by` of `sal_delta`, and its text |
+//! | `export` | the same with `changes` for a commit: all children of each changed node, so all entries of a list with a changed entry |
+//! | `Follower::feed` | a few looks at each byte, in any pieces; and for each row of a frame: |
+//! | | two binary searches in its tree, two copies, the checks of `sal_near`; an added or removed row moves those after it, twice |
 //! | `Follower::version`, `rows`, `waiting`, `into_device` | constant |
 //!
-//! A follower holds each tree twice. It copies trees only for the first frame after memory ran out, and for one whose trees are refused, after which
+//! A follower has each tree twice. It copies trees only for the first frame after memory ran out, and for one whose trees are refused, after which
 //! it takes no frame.
 //!
-//! A sender can make a follower keep one frame of 16,777,226 bytes, and no more: longer ones are refused by their head. The text is read by
-//! `serde_json`, which bounds how deep it nests.
+//! A sender can make a follower keep one frame of 16,777,226 bytes, and no more: the head of a longer one is refused. `serde_json`
+//! parses the text, and bounds its nesting.
 #![tactic(auto)]
 
 mod commits;

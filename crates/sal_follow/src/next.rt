@@ -1,6 +1,6 @@
-//! Where a stream goes on.
+//! Where a stream continues.
 
-/// The next frame of a stream: the commit that it is of, and the number that it has in the stream.
+/// The next frame of a stream: its commit, and its number in the stream.
 #[derive(Clone, Copy, Drop)]
 pub struct NextFrame {
     pub commit: u64,

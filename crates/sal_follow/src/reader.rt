@@ -17,7 +17,7 @@ use sal_types::{Cell, NoMemory, Path, PathFault, Seq, Step, Value, append};
 use serde_json::{Map, Number, Value as Json};
 use std::alloc::Global;
 
-/// What frames are read by: a schema and its patterns.
+/// The input for reading frames: a schema and its patterns.
 #[derive(Drop)]
 pub(crate) struct Reader<'a> {
     pub(crate) alloc: Global,
@@ -57,7 +57,7 @@ fn node_behind(here: Option<u32>, step: &Step) -> Option<u32>
     }
 }
 
-// A mark, of an object without members.
+// A mark, from an object without members.
 fn mark_of(members: &Map<String, Json>) -> Option<Option<Cell>>
     ensures { result ≡ spec.mark_of (members_view members.now.entries) }
 {
@@ -160,7 +160,7 @@ impl<'a> Reader<'a> {
         }
     }
 
-    // The steps of few items.
+    // The steps of up to 32 items.
     fn steps_in(&self, items: &[Json]) -> Result<Option<Path>, NoMemory>
         requires { length items.now ≤ 32 }
         ensures { IfOk result (λ o. o ≡ spec.steps_in self.now.schema.now None (items_view items.now)) }
@@ -189,7 +189,7 @@ impl<'a> Reader<'a> {
         }
     }
 
-    // The path that a JSON value is.
+    // The path of a JSON value.
     fn path_in(&self, json: &Json) -> Result<Option<Path>, NoMemory>
         ensures { IfOk result (λ o. o ≡ spec.path_in self.now.schema.now (view json.now)) }
     {
@@ -361,7 +361,7 @@ impl<'a> Reader<'a> {
         }
     }
 
-    /// The frame that a text is, if it is one.
+    /// The frame of a text, if it is one.
     pub(crate) fn frame_in(&self, text: &[u8]) -> Result<Option<Frame>, NoMemory>
         ensures { IfOk result (λ o. o ≡ spec.frame_in self.now.schema.now text.now) }
     {

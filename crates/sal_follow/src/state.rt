@@ -1,4 +1,4 @@
-//! What a follower holds, frame by frame.
+//! The state of a follower, frame by frame.
 ghost use Rattle.std.specs.Prelude.{◌≡◌, ◌<◌, ◌≤◌, ◌+◌, ◌^◌, ◌++◌, [], None, Some, length, IfOk};
 ghost use Rattle.sal_rows.specs.Patch.{patched};
 ghost use Rattle.sal_follow.specs.declared.fault.FollowFault.TheVariants.{BadFrame};
@@ -15,7 +15,7 @@ use sal_rows::Rows;
 use sal_types::NoMemory;
 use std::alloc::Global;
 
-/// The commit held and its trees, where its frame ends in the stream, and the first fault.
+/// The follower's commit and its trees, the offset of the end of its frame in the stream, and the first fault.
 #[derive(Drop)]
 pub(crate) struct State {
     pub(crate) version: Option<u64>,
@@ -25,14 +25,14 @@ pub(crate) struct State {
     pub(crate) fault: Option<FollowFault>,
 }
 
-/// What is held after some frames of a piece, and what these set.
+/// The state after some frames of a piece, and the patches of these.
 #[derive(Drop)]
 pub(crate) struct Run {
     pub(crate) state: State,
     pub(crate) log: Log,
 }
 
-// A frame that came, and the number of its bytes.
+// A frame, and the number of its bytes.
 #[derive(Drop)]
 struct Came {
     frame: Frame,
@@ -103,7 +103,7 @@ fn moved(both: Both, log: Log, at: u64, frame: Frame) -> Result<Run, NoMemory>
     })
 }
 
-// The trees of the last good commit, made again from those at the start, since a frame has spoiled them.
+// The trees of the last valid commit, made again from those at the start, since a frame has changed them.
 fn again(alloc: Global, start: &State, log: &Log) -> Result<Both, NoMemory>
     ensures config { IfOk result (λ both. both.config ≡ patched start.now.config log.now.config.items) }
     ensures oper { IfOk result (λ both. both.oper ≡ patched start.now.oper log.now.oper.items) }
@@ -112,7 +112,7 @@ fn again(alloc: Global, start: &State, log: &Log) -> Result<Both, NoMemory>
     both_patched(alloc, both, &log.config, &log.oper)
 }
 
-// The run at the last good commit, with the trees of this.
+// The run at the last valid commit, with these trees.
 fn spoiled(both: Both, log: Log, version: Option<u64>, at: u64) -> Run
     ensures state { result.state ≡ record { version = version; config = both.config; oper = both.oper; at = at; fault = Some (BadFrame at) } }
     ensures log { result.log ≡ log }
@@ -129,7 +129,7 @@ fn spoiled(both: Both, log: Log, version: Option<u64>, at: u64) -> Run
     }
 }
 
-// The run after a frame that has the number of the next commit.
+// The run after a frame with the number of the next commit.
 fn after_next(reader: &Reader, start: &State, run: Run, came: Came) -> Result<Run, NoMemory>
     requires sound { IsSound reader.now.schema.now start.now run }
     requires fits { FrameFits reader.now.schema.now came.frame }
@@ -196,7 +196,7 @@ fn taken(reader: &Reader, start: &State, run: Run, text: &[u8]) -> Result<Run, N
     }
 }
 
-// The text of a frame that is there.
+// The text of a complete frame.
 fn text_of(rest: &[u8], len: usize) -> &[u8]
     requires { len + 9 < length rest.now }
     ensures { result.now ≡ text_in rest.now len }
@@ -204,7 +204,7 @@ fn text_of(rest: &[u8], len: usize) -> &[u8]
     &rest[9..9 + len]
 }
 
-/// The run after all frames that are there, and how many bytes these have.
+/// The run after all complete frames, and the number of their bytes.
 pub(crate) fn advanced(
     reader: &Reader,
     start: &State,

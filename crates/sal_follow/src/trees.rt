@@ -1,4 +1,4 @@
-//! Both trees, and what frames set in them.
+//! Both trees, and the patches of frames.
 ghost use Rattle.std.specs.Prelude.{◌≡◌, ◌&&◌, ◌++◌, true, not, IfOk, IfSome};
 ghost use Rattle.sal_rows.specs.Patch.{patched};
 ghost use Rattle.sal_near.specs.Near.{are_near, leave_state};
@@ -20,14 +20,14 @@ pub(crate) struct Both {
     pub(crate) oper: Rows,
 }
 
-/// What frames set, one after another.
+/// The patches of frames, one after another.
 #[derive(Drop)]
 pub(crate) struct Log {
     pub(crate) config: Vec<Patch>,
     pub(crate) oper: Vec<Patch>,
 }
 
-/// A second pair of trees.
+/// A copy of both trees.
 pub(crate) fn copy_of(state: &State) -> Result<Both, NoMemory>
     ensures config { IfOk result (λ both. both.config ≡ state.now.config) }
     ensures oper { IfOk result (λ both. both.oper ≡ state.now.oper) }
@@ -47,7 +47,7 @@ pub(crate) fn both_of(state: State) -> Both
     }
 }
 
-// A second cell, or none.
+// A copy of a cell, or none.
 fn cell_of(cell: &Option<Cell>) -> Result<Option<Cell>, NoMemory>
     ensures { IfOk result (λ o. o ≡ cell.now) }
 {
@@ -99,7 +99,7 @@ pub(crate) fn both_patched(
     Ok(Both { config, oper })
 }
 
-// Whether all near the patches of the frame is as it has to be.
+// Whether the checks near the patches of the frame pass.
 fn is_good_near(schema: &Schema, both: &Both, frame: &Frame) -> bool
     ensures { result ≡ ((are_near schema.now both.now.config frame.now.config && not (leave_state schema.now both.now.config frame.now.config)) && are_near schema.now both.now.oper frame.now.oper) }
 {
@@ -108,7 +108,7 @@ fn is_good_near(schema: &Schema, both: &Both, frame: &Frame) -> bool
         && are_near(schema, &both.oper, frame.oper.items())
 }
 
-/// The trees after a frame, where they are trees of the schema.
+/// The trees after a frame, if they are trees of the schema.
 pub(crate) fn trees_after(
     alloc: Global,
     schema: &Schema,
@@ -130,7 +130,7 @@ pub(crate) fn trees_after(
     }
 }
 
-/// The log with what one frame more sets.
+/// The log with the patches of one more frame.
 pub(crate) fn longer(log: Log, config: Seq<Patch>, oper: Seq<Patch>) -> Result<Log, NoMemory>
     ensures config { IfOk result (λ more. more.config.items ≡ log.config.items ++ config) }
     ensures oper { IfOk result (λ more. more.oper.items ≡ log.oper.items ++ oper) }
@@ -149,7 +149,7 @@ fn joined(patches: Vec<Patch>, more: Seq<Patch>) -> Result<Vec<Patch>, NoMemory>
     Ok(all)
 }
 
-/// Both trees after what the log says; none if memory runs out.
+/// Both trees after the log; none if memory runs out.
 pub(crate) fn caught_up(state: State, log: Log) -> Option<Both>
     ensures config { IfSome result (λ both. both.config ≡ patched state.config log.config.items) }
     ensures oper { IfSome result (λ both. both.oper ≡ patched state.oper log.oper.items) }

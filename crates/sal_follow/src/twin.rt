@@ -1,4 +1,4 @@
-//! What is held, and its trees once more.
+//! The state, and a second copy of its trees.
 ghost use Rattle.std.specs.Prelude.{◌≡◌, ◌<◌, ◌+◌, ◌^◌, [], None, length, IfOk, MatchResult};
 ghost use Rattle.sal_rows.specs.Patch.{patched};
 ghost use Rattle.sal_follow.specs.States.{HasTrees, IsSound, IsSpare, IsStepped, IsTwin, IsWithin, nothing_held};
@@ -11,8 +11,8 @@ use sal_types::NoMemory;
 use std::alloc::Global;
 use std::mem;
 
-/// What is held, and the same trees once more. Frames are taken in the second trees, which then change places with the first: so a piece is
-/// taken whole, or not at all. There are no second trees after memory ran out; they are made again when the next frame comes.
+/// The state, and a second copy of its trees. Frames are applied to the second trees, which are then swapped with the first: so a piece is
+/// taken as a whole, or not at all. There are no second trees after memory ran out; the next frame makes them again.
 #[derive(Drop)]
 pub(crate) struct Twin {
     pub(crate) state: State,
@@ -20,7 +20,7 @@ pub(crate) struct Twin {
 }
 
 impl Twin {
-    /// What is held before the stream.
+    /// The state before the stream.
     pub(crate) fn new(alloc: Global) -> Twin
         ensures state { result.state ≡ nothing_held }
         ensures spare { IsSpare result.state result.spare }
@@ -41,14 +41,14 @@ impl Twin {
     }
 }
 
-/// What is held.
+/// The state.
 pub(crate) fn state_of(twin: Twin) -> State
     ensures { result ≡ twin.state }
 {
     twin.state
 }
 
-// The trees held: the second ones if they are there.
+// The trees: the second ones if they exist.
 fn trees_of(state: &State, spare: Option<Both>) -> Result<Both, NoMemory>
     requires { IsSpare state.now spare }
     ensures config { IfOk result (λ both. both.config ≡ state.now.config) }
@@ -83,7 +83,7 @@ fn begun(alloc: Global, state: &State, spare: Option<Both>) -> Result<Run, NoMem
     })
 }
 
-// The run after all frames that are there, and how many bytes these have.
+// The run after all complete frames, and the number of their bytes.
 fn run_over(
     reader: &Reader,
     state: &State,
@@ -102,7 +102,7 @@ fn run_over(
     advanced(reader, state, run, bytes)
 }
 
-// Holds what the run has, and lets the trees held before catch up with it.
+// Sets the state to that of the run, and applies its log to the old trees.
 fn settle(twin: &mut Twin, run: Run)
     requires config { run.state.config ≡ patched twin.old.state.config run.log.config.items }
     requires oper { run.state.oper ≡ patched twin.old.state.oper run.log.oper.items }
@@ -114,7 +114,7 @@ fn settle(twin: &mut Twin, run: Run)
     twin.spare = caught_up(before, log);
 }
 
-/// Takes all frames that are there, and answers how many bytes these have. Without memory what is held stays.
+/// Takes all complete frames, and returns the number of their bytes. If memory runs out, the state is unchanged.
 pub(crate) fn stepped(reader: &Reader, twin: &mut Twin, bytes: &[u8]) -> Result<usize, NoMemory>
     requires twin { IsTwin reader.now.schema.now twin.old }
     requires going { twin.old.state.fault ≡ None }

@@ -1,4 +1,4 @@
-//! Frames, written.
+//! Frames as text.
 ghost use Rattle.std.specs.Prelude.{◌≡◌, ◌++◌, [], ◌∷◌, codes, map, IfOk, OnOk};
 ghost use Rattle.serde_json.specs.Data.{array, object, member, no_members};
 ghost use Rattle.serde_json.specs.View.{view, items_of};
@@ -15,7 +15,7 @@ use sal_types::{Cell, NoMemory, Path, Step, Value};
 use serde_json::{Map, Value as Json};
 use std::alloc::Global;
 
-/// What frames are written by: a schema.
+/// The input for writing frames: a schema.
 #[derive(Drop)]
 pub(crate) struct Writer<'a> {
     pub(crate) alloc: Global,
@@ -172,7 +172,7 @@ impl<'a> Writer<'a> {
     }
 }
 
-// The node that these steps name.
+// The node at the end of these steps.
 fn node_at_end(steps: &[Step]) -> Option<u32>
     ensures { result ≡ node_of steps.now }
 {

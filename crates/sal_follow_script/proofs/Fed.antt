@@ -2,13 +2,12 @@
 use Rattle.std.proofs.Common.{◌≡◌, ◌⊎◌, inl, inr, ℕ, zero, suc, ◌+◌, ◌-◌, ◌<◌, ◌≤◌, ◌^◌, List, [], ◌∷◌, ◌++◌, length, take, drop, Option, Some, None, Result, Ok, Err, refl, ap, sym, ◌∙◌, subst, arith}
 use Rattle.std.specs.Option.{option_map_or}
 use Rattle.std.proofs.lemmas.List.{length-take, take_all}
-use Rattle.std.proofs.lemmas.List.Sums.{fold-append}
-use Rattle.sal_schema.specs.declared.table.SchemaTable.{SchemaTable}
 use Rattle.sal_follow.specs.declared.fault.FollowFault.{FollowFault}
 use Rattle.sal_follow.specs.declared.fault.FollowFault.TheVariants.{BadFrame, Gap, NoMemory}
 use Rattle.sal_follow.specs.Laws.{PlacesCountBytes}
 use Rattle.sal_follow.specs.States.{Following, Feeds}
-use Rattle.sal_follow.specs.Stream.{Held, after_byte, answer, followed, fresh}
+use Rattle.sal_follow.specs.Stream.{Held, answer, followed, fresh}
+use Rattle.sal_follow.proofs.Counted.{joined}
 use Rattle.sal_follow.proofs.Feeding.{stays-faulty}
 use Rattle.sal_follow_script.specs.Taken.{IsTaken}
 
@@ -55,10 +54,6 @@ all_upto : (stream : List ℕ) (end : ℕ) → take end stream ++ drop end strea
 all_upto stream zero = refl
 all_upto [] (suc end) = refl
 all_upto (b ∷ stream) (suc end) = ap (λ bs. b ∷ bs) (all_upto stream end)
-
-pub joined : (table : SchemaTable) (h : Held) (a b : List ℕ) → followed table (followed table h a) b ≡ followed table h (a ++ b)
-unfolding followed
-joined table h a b = sym (fold-append (after_byte table) h a b)
 
 module _ (stream : List ℕ) (start now next : Following) (fed end : ℕ) (piece : List ℕ) (result : Result (Option ℕ) FollowFault) (is : IsFed stream start now fed) (before : fed ≤ end) (inside : end ≤ length stream)
     (cut : piece ≡ take (end - fed) (drop fed stream)) (feeds : Feeds piece now next result) where

@@ -13,7 +13,7 @@ use Rattle.sal_prepare.specs.declared.status.Status.{Status}
 use Rattle.sal_prepare.specs.declared.status.Status.TheVariants.{BadExport, BadOrder}
 use Rattle.sal_prepare.specs.Scripted.{prepared}
 
--- ---- what is exported of a log
+-- ---- the export of a log
 
 -- the trees of domain 0 at its commit of this number
 abbrev pub trees_by : List Domain → List Entry → ℕ → Trees
@@ -36,12 +36,12 @@ frames_by table trees = or_too_long (exported table trees) (too_long table (fram
 abbrev pub export_log : List Domain → List Entry → Result (List ℕ) Status
 export_log world log = frames_by (last_of world 0) (own_trees world log)
 
--- ---- what is exported of a script
+-- ---- the export of a script
 
 abbrev pub export_play : List Domain → Result Played ℕ → Result (List ℕ) Status
 export_play world (Ok played) = export_log world played.log
 export_play world (Err index) = Err (BadOrder index)
 
--- The frames of the script that the bytes denote, played in its order. What is wrong ahead of that counts first.
+-- The frames of the script that the bytes denote, played in its order. An earlier fault is returned first.
 abbrev pub export_text : List ℕ → Result (List ℕ) Status
 export_text bytes = prepared bytes >>= (λ script. export_play script.world (play script.world script.parts.clients script.parts.order))

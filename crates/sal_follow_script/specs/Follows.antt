@@ -1,4 +1,4 @@
--- The text of `follow`: the trees that a follower holds at the end of a stream.
+-- The text of `follow`: the trees of a follower at the end of a stream.
 use Rattle.std.specs.Prelude.{ℕ, List, [], ◌∷◌, ◌++◌, Option, Some, Result, Ok, Err, codes, decimal}
 use Rattle.std.specs.Option.{option_map_or}
 use Rattle.sal_types.specs.Reading.{◌>>=◌}
@@ -14,7 +14,7 @@ use Rattle.sal_prepare.specs.OwnSchemas.{own_table}
 use Rattle.sal_prepare.specs.Parted.{Parted, parted}
 use Rattle.sal_prepare.specs.Scripted.{or_script}
 
--- ---- what is held at the end of a stream
+-- ---- the state at the end of a stream
 
 -- the status of a fault
 abbrev pub fault_status : FollowFault → Status
@@ -22,11 +22,11 @@ fault_status (BadFrame at) = BadStream (codes "bad-frame " ++ decimal at)
 fault_status (Gap want got) = BadStream (codes "gap " ++ (decimal want ++ (32 ∷ decimal got)))
 fault_status Wanting = NoMemory
 
--- the status of a stream whose last frame begins at this byte and does not end, or is not there
+-- the status of a stream whose last frame begins at this offset and does not end, or is absent
 abbrev pub unfinished : ℕ → Status
 unfinished at = BadStream (codes "unfinished " ++ decimal at)
 
--- the line of domain 0 with the trees of the commit that is held, where no byte of another frame is left
+-- the line of domain 0 with the trees of the follower's commit, if no byte of another frame remains
 abbrev pub told_end : SchemaTable → Held → Option ℕ → List ℕ → Result (List ℕ) Status
 told_end table h (Some commit) [] = Ok (tree_line (table ∷ []) (record { domain = 0; commits = commit; config = h.config; oper = h.oper }))
 told_end table h version rest = Err (unfinished h.at)

@@ -1,4 +1,4 @@
--- What feeding a stream leaves.
+-- The effect of feeding a stream.
 use Rattle.std.specs.Prelude.{◌≡◌, ℕ, List, [], ◌∷◌, Some, None, Result, Ok, Err, ⊤}
 use Rattle.sal_schema.specs.declared.table.SchemaTable.{SchemaTable}
 use Rattle.sal_follow.specs.declared.fault.FollowFault.{FollowFault}
@@ -10,7 +10,7 @@ use Rattle.sal_prepare.specs.declared.status.Status.{Status}
 use Rattle.sal_prepare.specs.declared.status.Status.TheVariants as status
 use Rattle.sal_follow_script.specs.Follows.{fault_status, unfinished}
 
--- The whole stream was taken without a fault, or its first fault is this one; nothing is said of want of memory.
+-- The whole stream was taken without a fault, or its first fault is this one; `NoMemory` has no condition.
 abbrev pub IsTaken : List ℕ → Following → Following → Result ⊤ FollowFault → Type 0
 IsTaken stream old new (Ok done) = (new ≡ record { schema = old.schema; held = followed old.schema fresh stream }) × (new.held.fault ≡ None)
 IsTaken stream old new (Err NoMemory) = ⊤
@@ -18,7 +18,7 @@ IsTaken stream old new (Err fault) = (followed old.schema fresh stream).fault �
 
 -- ---- the report
 
--- the line of domain 0 with what is held
+-- the line of domain 0 with the follower's trees
 abbrev pub line_held : SchemaTable → Held → ℕ → List ℕ
 line_held table h commit = tree_line (table ∷ []) (record { domain = 0; commits = commit; config = h.config; oper = h.oper })
 

@@ -24,7 +24,7 @@ use std::alloc::Global;
 use std::mem;
 use std::sync::Arc;
 
-/// The frames of domain 0 of the script that the bytes denote, played in its order; or the status of the first that is wrong.
+/// The frames of domain 0 of the script that the bytes denote, played in its order; or the status of the first fault.
 pub fn export_text(alloc: Global, bytes: &[u8]) -> Result<Bytes, Status>
     ensures { IsTextOr (spec.export_text bytes.now) result }
 {
@@ -47,7 +47,7 @@ fn export_over(alloc: Global, read: ReadScript, hub: Hub) -> Result<Bytes, Statu
     }
 }
 
-// The frames of what was played. That is not let go: the process ends next, and gives back all at once.
+// The frames of a play. The play is not dropped: the process ends next, and frees all at once.
 fn export_played(alloc: Global, schemas: &[Arc<Schema>], played: Played) -> Result<Bytes, Status>
     requires schemas { tables_in schemas.now ≡ tables_of played.hub.world }
     requires some { 1 ≤ length schemas.now }

@@ -17,11 +17,11 @@ use sal_types::{NoMemory, Str};
 use std::alloc::Global;
 use std::sync::Arc;
 
-// How many bytes of a stream are fed at once.
+// The number of bytes of a stream that are fed at once.
 const PIECE: usize = 4096;
 
-/// The line of domain 0 with the trees that a follower holds at the end of a stream. The input is a script, of which the own modules
-/// and upgrades are used, a zero byte, and the stream. Or the status of the first that is wrong.
+/// The line of domain 0 with the trees of a follower at the end of a stream. The input is a script, of which only its own modules
+/// and upgrades are used, a zero byte, and the stream. Or the status of the first fault.
 pub fn follow_text(alloc: Global, bytes: &[u8]) -> Result<Str, Status>
     ensures { IsTextOr (spec.follow_text bytes.now) result }
 {
@@ -31,7 +31,7 @@ pub fn follow_text(alloc: Global, bytes: &[u8]) -> Result<Str, Status>
     }
 }
 
-// The same of the two parts.
+// The same from the two parts.
 fn follow_parts(alloc: Global, input: TwoParts<'_>) -> Result<Str, Status>
     ensures { IsTextOr (spec.follow_parts (record { first = input.entry.first.now; second = input.entry.second.now })) result }
 {
@@ -40,7 +40,7 @@ fn follow_parts(alloc: Global, input: TwoParts<'_>) -> Result<Str, Status>
     follow_stream(alloc, own, input.second)
 }
 
-/// The line of domain 0 by this schema, with the trees that a follower holds at the end of the stream; or the status of its first fault.
+/// The line of domain 0 by this schema, with the trees of a follower at the end of the stream; or the status of its first fault.
 pub fn follow_stream(alloc: Global, own: OwnSchema, stream: &[u8]) -> Result<Str, Status>
     requires { own.patterns ≡ patterns_of own.schema.value }
     ensures { IsTextOr (spec.told own.schema.value (followed own.schema.value fresh stream.now)) result }
@@ -78,7 +78,7 @@ fn feed_all(follower: &mut Follower, stream: &[u8]) -> Result<(), FollowFault>
     Ok(())
 }
 
-// Where the piece ends that begins here, in a stream of so many bytes.
+// The end of the piece that begins at `at`, in a stream of `bytes` bytes.
 fn piece_end(at: usize, bytes: usize) -> usize
     requires { at < bytes }
     ensures some { at < result }

@@ -1,4 +1,4 @@
-//! What a follower holds at the end of a stream, as text; and its faults.
+//! The state of a follower at the end of a stream, as text; and its faults.
 ghost use Rattle.std.specs.Prelude.{◌≡◌, ◌+◌, ◌++◌, IfOk, None, Ok, codes, decimal, length};
 ghost use Rattle.sal_prepare.specs.Texts.{IsTextOr};
 ghost use Rattle.sal_follow_script.specs.Follows as spec;
@@ -14,7 +14,7 @@ use std::alloc::Global;
 use std::slice;
 use std::sync::Arc;
 
-/// The line of domain 0 with what is held after so many bytes without a fault, where it is a commit and no byte of another frame is left.
+/// The line of domain 0 after this many bytes without a fault, if the follower has a commit and no byte of another frame remains.
 pub(crate) fn told(
     alloc: Global,
     schema: &Arc<Schema>,
@@ -32,7 +32,7 @@ pub(crate) fn told(
     }
 }
 
-// The line of domain 0 with the trees that are held, which are those of this commit.
+// The line of domain 0 with the follower's trees, which are those of this commit.
 fn held_line(
     alloc: Global,
     schema: &Arc<Schema>,
@@ -76,7 +76,7 @@ fn fault_text(alloc: Global, fault: FollowFault) -> Result<Str, NoMemory>
     Ok(Str::from_string(text))
 }
 
-// The status of a stream that ends within the frame that begins at this byte.
+// The status of a stream that ends within the frame that begins at this offset.
 fn unfinished(alloc: Global, at: u64) -> Status
     ensures { IsUnfinished at result }
 {

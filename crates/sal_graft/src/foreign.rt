@@ -8,8 +8,8 @@ use sal_tree::Commit;
 use sal_types::NoMemory;
 use std::alloc::Global;
 
-/// The spans of a submission: the pieces of the commits after its base, up to the newest one, that the commits of its own
-/// chain part. One of no chain has one span, and the commits are not looked at.
+/// The spans of a submission: the ranges of the commits after its base, up to the newest one, without the commits of its own
+/// chain. Without a chain there is one span, and the commits are not read.
 ///
 /// `commits` are those of the domain from the opening to the newest, and `base` is the number of one of them.
 pub fn foreign_spans(
@@ -28,7 +28,7 @@ pub fn foreign_spans(
     }
 }
 
-// The one span of a submission of no chain.
+// The one span of a submission without a chain.
 fn one_span(alloc: Global, base: u64, commits: &[Commit]) -> Result<Vec<Span>, NoMemory>
     requires { base < length commits.now }
     ensures spans { IfOk result (λ v. v.items ≡ spans base None (chains_of commits.now)) }

@@ -1,4 +1,4 @@
-//! The leafs of a merge to which a later commit gave other values.
+//! The leafs of a merge whose values later commits changed.
 ghost use Rattle.std.specs.Prelude.{◌≡◌, All, None, if◌then◌else◌, is_some, not, unwrap_or};
 ghost use Rattle.std.specs.List.{position_from};
 ghost use Rattle.std.specs.Option.{option_map};
@@ -25,7 +25,7 @@ use sal_tree::{Commit, Pair, Root, tree_of};
 use sal_types::{Cell, Row, Step, Store};
 use std::sync::Arc;
 
-/// The third test, where it is made: the first leaf of the operation's data that a commit in the spans touched, and whose cell differs
+/// The third test, if it applies: the first leaf of the operation's data that a commit in the spans touched, and whose cell differs
 /// between the base and the newest tree.
 pub(crate) fn leaf_clash(earlier: &[Op], op: &Op, looks: bool, ground: &Ground) -> Option<Clash>
     requires kept { AreKept ground.now.commits.now }
@@ -102,7 +102,7 @@ fn is_touched_over(commits: &[Commit], spans: &[Span], store: Store, steps: &[St
     last_touch_over(commits, spans, store, steps).is_some()
 }
 
-// Whether base and newest tree have different cells at the steps.
+// Whether base and newest tree have different cells at the path.
 fn is_changed(steps: &[Step], store: Store, base: &Pair, commits: &[Commit]) -> bool
     requires kept { AreKept commits.now }
     ensures { result ≡ not (same_cell (cell (rows_in base.now store) steps.now) (cell (spec.tip (opening_in commits.now) (ops_of commits.now) store) steps.now)) }
@@ -132,7 +132,7 @@ fn have_different_cells(was: Option<&Arc<Node>>, is: Option<&Arc<Node>>) -> bool
     }
 }
 
-// Whether there is a cell, which differs from none.
+// Whether the cell exists, and so differs from none.
 fn is_there(cell: &Option<Cell>) -> bool
     ensures after { result ≡ not (same_cell None cell.now) }
     ensures before { result ≡ not (same_cell cell.now None) }

@@ -46,8 +46,8 @@ fn touch_in(commits: &[Commit], span: &Span, store: Store, steps: &[Step]) -> Op
     last_touch(commits, *span, store, steps)
 }
 
-/// The last commit in the span that touched the path: by the stamp of the node that stands there at the end, or, where none
-/// does, by looking back.
+/// The last commit in the span that touched the path: by the stamp of the node there at the end, or, if there is
+/// none, by a backward search.
 pub(crate) fn last_touch(
     commits: &[Commit],
     span: Span,
@@ -66,7 +66,7 @@ pub(crate) fn last_touch(
     }
 }
 
-// The commit in the span that gave the stamp, where none before the span did.
+// The commit in the span that made the stamp, if no earlier one did.
 fn giver(commits: &[Commit], span: Span, stamp: u64) -> Option<u64>
     requires kept { AreKept commits.now }
     requires following { AreFollowing commits.now }
@@ -80,7 +80,7 @@ fn giver(commits: &[Commit], span: Span, stamp: u64) -> Option<u64>
     Some(number)
 }
 
-// The first commit from the start of the span on whose receipt is not below the limit, or the end of the span, by halves.
+// The first commit from the start of the span on whose receipt is at least the limit, or the end of the span, by a binary search.
 fn first_from(commits: &[Commit], span: Span, limit: u64) -> u64
     requires { IsSpanOf commits.now span }
     ensures low { span.from ≤ result }

@@ -31,7 +31,7 @@ pub(crate) fn reads_clash(changes: &Mod, ground: &Ground) -> Option<Clash>
     None
 }
 
-// Whether the operation at the place is a read that no earlier put or delete covers.
+// Whether the operation at the index is a read that no earlier put or delete covers.
 fn is_checked(changes: &Mod, op: &Op, place: usize) -> bool
     ensures { result ≡ (is_read op.now.act && not (is_covered (take place changes.now) op.now.store op.now.path)) }
 {

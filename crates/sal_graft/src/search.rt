@@ -21,9 +21,9 @@ use sal_tree::{Commit, Pair, Root, tree_of};
 use sal_types::{Step, Store};
 
 /// The conflict of the operations of a transaction with the commits in the spans, by the version rules: of the first write that has
-/// one, and else of the first read.
+/// one, or else of the first read.
 ///
-/// `base` are the trees that the transaction stands on, and `commits` those of its domain from the opening to the newest.
+/// `base` are the base trees of the transaction, and `commits` those of its domain from the opening to the newest.
 /// The spans are the commits after its base without those of its own chain. It takes no memory.
 pub fn conflict(
     changes: &Mod,
@@ -49,7 +49,7 @@ pub fn conflict(
     }
 }
 
-// The conflict of the first write that has one. Reads are looked at after all writes.
+// The conflict of the first write that has one. Reads are tested after all writes.
 fn writes_clash(changes: &Mod, ground: &Ground) -> Option<Clash>
     requires kept { AreKept ground.now.commits.now }
     requires following { AreFollowing ground.now.commits.now }
@@ -87,7 +87,7 @@ fn op_clash(earlier: &[Op], op: &Op, covered: bool, ground: &Ground) -> Option<C
     }
 }
 
-// Whether the third test is made of the operation.
+// Whether the third test applies to the operation.
 fn looks_at_leafs(op: &Op, covered: bool, rules: Rules) -> bool
     ensures { result ≡ (checks_leafs rules op.now.act && not covered) }
 {
@@ -132,7 +132,7 @@ pub(crate) fn tip_of(commits: &[Commit], store: Store) -> &Root
     tree_of(&commits[commits.len() - 1].trees, store)
 }
 
-// How many steps lead to the outermost lost parent.
+// The number of steps of the outermost lost parent's path.
 fn lost_depth(
     base: &Root,
     tip: &Root,
@@ -171,7 +171,7 @@ fn path_clash(earlier: &[Op], op: &Op, covered: bool, ground: &Ground) -> Option
     path_conflict(earlier.len(), op, ground)
 }
 
-/// The first span over which the path of the operation at the place is not unchanged, as a conflict.
+/// The first span over which the path of the operation at the index is not unchanged, as a conflict.
 pub(crate) fn path_conflict(place: usize, op: &Op, ground: &Ground) -> Option<Clash>
     requires kept { AreKept ground.now.commits.now }
     requires following { AreFollowing ground.now.commits.now }

@@ -1,4 +1,4 @@
-//! What became of a path over the commits in spans.
+//! How a path differs over the commits in spans.
 ghost use Rattle.std.specs.Prelude.{◌≡◌, ◌<◌, length, not, find, All, IfSome};
 ghost use Rattle.sal_rows.specs.Commits as commits_spec;
 ghost use Rattle.sal_rows.specs.Commits.{kind_by};
@@ -33,8 +33,8 @@ pub(crate) fn changed_span(
     None
 }
 
-// Whether nothing stands at the path at either end of the span, or at both one node, by its stamp. Over no commit nothing
-// changes, and no tree is looked at: between the commits of one chain most spans are such.
+// Whether the path is absent at both ends of the span, or present at both with one stamp. An empty span is unchanged
+// without a look at a tree: between the commits of one chain most spans are empty.
 fn is_unchanged(commits: &[Commit], span: Span, store: Store, steps: &[Step]) -> bool
     requires kept { AreKept commits.now }
     requires following { AreFollowing commits.now }
@@ -63,7 +63,7 @@ pub(crate) fn kind_over(commits: &[Commit], span: Span, store: Store, steps: &[S
     kind_by(was, is)
 }
 
-/// How what was there or not, and is there or not, differs.
+/// The kind of a difference, by whether the path was and is present.
 pub(crate) fn kind_by(was: bool, is: bool) -> ClashKind
     ensures { result ≡ kind_by was is }
 {
@@ -76,7 +76,7 @@ pub(crate) fn kind_by(was: bool, is: bool) -> ClashKind
     }
 }
 
-// Whether something stands at the path after the commit.
+// Whether the path is present after the commit.
 fn stands_after(commits: &[Commit], number: u64, store: Store, steps: &[Step]) -> bool
     requires kept { AreKept commits.now }
     requires number { number < length commits.now }

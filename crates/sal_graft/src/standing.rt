@@ -1,4 +1,4 @@
-//! What stands in a tree at the first steps of a path.
+//! Look-ups in a tree by a prefix of a path.
 ghost use Rattle.std.specs.Prelude.{◌≡◌, Some, is_some};
 ghost use Rattle.sal_types.specs.Tree.{cell, has};
 ghost use Rattle.sal_node.specs.Shape.{tree_at};
@@ -12,14 +12,14 @@ use sal_tree::{Root, have_same_stamp, is_present, reached};
 use sal_types::Step;
 use std::sync::Arc;
 
-/// Whether a row stands at the steps or below them.
+/// Whether the tree has a row at or below the steps.
 pub(crate) fn stands(tree: &Root, steps: &[Step]) -> bool
     ensures { result ≡ has (rows_of tree.now) steps.now }
 {
     is_present(reached(Some(tree.node()), steps))
 }
 
-/// Whether a row stands at the steps themselves.
+/// Whether the tree has a row at the steps.
 pub(crate) fn has_cell(tree: &Root, steps: &[Step]) -> bool
     ensures { result ≡ is_some (cell (rows_of tree.now) steps.now) }
 {
@@ -29,14 +29,14 @@ pub(crate) fn has_cell(tree: &Root, steps: &[Step]) -> bool
     }
 }
 
-/// Whether nothing stands at the steps in either tree, or something in both and with one stamp.
+/// Whether the steps are absent in both trees, or present in both with one stamp.
 pub(crate) fn is_alike(before: &Root, after: &Root, steps: &[Step]) -> bool
     ensures { result ≡ alike (filled (at (Some before.now) steps.now)) (filled (at (Some after.now) steps.now)) }
 {
     have_same_stamp(filled_at(before, steps), filled_at(after, steps))
 }
 
-// The node that the steps lead to, where a row stands at it or below it.
+// The node at the steps, if it has a row at or below it.
 fn filled_at<'a>(tree: &'a Root, steps: &[Step]) -> Option<&'a Arc<Node>>
     ensures { tree_at result ≡ filled (at (Some tree.now) steps.now) }
 {
@@ -52,7 +52,7 @@ fn if_filled(node: &Arc<Node>) -> Option<&Arc<Node>>
     if node.is_filled() { Some(node) } else { None }
 }
 
-/// The node that the steps lead to.
+/// The node at the steps.
 pub(crate) fn node_at<'a>(tree: &'a Root, steps: &[Step]) -> Option<&'a Arc<Node>>
     ensures { tree_at result ≡ at (Some tree.now) steps.now }
 {

@@ -1,4 +1,4 @@
-//! What operations set and touch at the first steps of a path.
+//! What operations set and touch at a prefix of a path.
 ghost use Rattle.std.specs.Prelude.{◌≡◌, is_some};
 ghost use Rattle.std.specs.List.{list_any};
 ghost use Rattle.sal_types.specs.Order.{path_eq};
@@ -36,7 +36,7 @@ fn op_touches(before: &Root, op: &Op, steps: &[Step]) -> bool
     }
 }
 
-// Whether something stands that a put or delete at `path` sets at the steps or below them.
+// Whether there is a row at or below the steps that a put or delete at `path` removes.
 fn is_cleared(before: &Root, path: &[Step], steps: &[Step]) -> bool
     ensures { result ≡ is_cleared (rows_of before.now) path.now steps.now }
 {
@@ -75,14 +75,14 @@ fn is_same(first: &[Step], other: &[Step]) -> bool
     first == other
 }
 
-// Whether a row stands at the steps or below them.
+// Whether there is a row at or below the steps.
 fn lies_under(rows: &[Row], steps: &[Step]) -> bool
     ensures { result ≡ has rows.now steps.now }
 {
     rows.iter().any(|row| begins(steps, row.path.steps()))
 }
 
-// Whether the second steps begin with the first.
+// Whether the first steps are a prefix of the second.
 fn begins(first: &[Step], steps: &[Step]) -> bool
     ensures { result ≡ is_prefix first.now steps.now }
 {

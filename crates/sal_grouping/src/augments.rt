@@ -1,4 +1,4 @@
-//! Augments, carried out in rounds.
+//! Augments, applied in rounds.
 ghost use Rattle.std.specs.Prelude.{◌≡◌, ◌<◌, ◌≤◌, ◌+◌, ◌++◌, IfOk, IfSome, IfNone, IsSome, None, Some, true, false, length, option_and_then};
 ghost use Rattle.std.specs.List.{slice_get};
 ghost use Rattle.sal_module.specs.Faults.{least};
@@ -21,7 +21,7 @@ use std::alloc::Global;
 
 // ---- a node and its name
 
-/// The keyword of a node's statement, or the one that is implied.
+/// The keyword of a node's statement, or the implied keyword.
 pub(crate) fn kind_of(rows: &[Row], node: &Node) -> Option<Keyword>
     ensures { result ≡ spec.kind_of rows.now node.now }
 {
@@ -84,7 +84,7 @@ fn is_child(rows: &[Row], parent: Option<u32>, step: &Step, node: &Node) -> bool
         && name_of(rows, node) == step.1.as_str()
 }
 
-/// The child to which a step leads: that with the smallest number.
+/// The child to which a step leads: of several, the one with the smallest number.
 fn child_of(rows: &[Row], nodes: &[Node], parent: Option<u32>, step: &Step) -> Option<u32>
     requires { length nodes.now ≤ 65536 }
     ensures { result ≡ spec.child_of rows.now nodes.now parent step.now }
@@ -112,7 +112,7 @@ fn follow(rows: &[Row], nodes: &[Node], path: &[Step]) -> Option<u32>
     at
 }
 
-// ---- what can hold which nodes
+// ---- which nodes a node may have
 
 fn holds_data(kind: Option<Keyword>) -> bool
     ensures { result ≡ spec.holds_data kind }
@@ -131,7 +131,7 @@ fn holds_data(kind: Option<Keyword>) -> bool
     }
 }
 
-/// Whether a node of this kind can hold what an augment adds, which has nodes or none.
+/// Whether a node of this kind may have the nodes of an augment; `any` says whether the augment has nodes.
 fn can_hold(plan: &Plan, kind: Option<Keyword>, k: usize, any: bool) -> bool
     requires { IsPlan plan.now.rows.items plan.now.named.items plan.now }
     ensures { result ≡ spec.can_hold plan.now.rows.items kind k any }
@@ -157,14 +157,14 @@ fn has_nodes(alloc: Global, plan: &Plan, k: usize) -> Result<bool, NoMemory>
 
 // ---- one augment
 
-/// What became of an augment.
+/// The result of trying an augment.
 #[derive(Clone, Copy)]
 enum Tried {
     /// Its nodes were added.
     Carried,
-    /// It has no target that can hold them.
+    /// No target exists that may have them.
     Left,
-    /// With its nodes there are more than are taken.
+    /// With its nodes the limit is exceeded.
     Past,
 }
 
@@ -177,7 +177,7 @@ fn node_kind(rows: &[Row], nodes: &[Node], k: u32) -> Option<Keyword>
     }
 }
 
-/// The nodes of an augment go below its target, where that can hold them.
+/// The nodes of an augment are added below its target, if that may have them.
 fn carry_to(
     alloc: Global,
     plan: &Plan,
@@ -235,7 +235,7 @@ fn try_augment(
 
 // ---- rounds
 
-/// Tries an augment after others: it joins those that are left, if it is not carried out. The answer is whether all nodes are in it.
+/// Tries one more augment: if it is not applied, it joins the pending ones. The answer is false if the limit is exceeded.
 fn try_next(
     alloc: Global,
     modules: &Modules,
@@ -262,7 +262,7 @@ fn try_next(
     }
 }
 
-/// Tries all these augments once. The answer is those that are left, or none where there are more nodes than are taken.
+/// Tries all these augments once. The answer is the pending ones, or none if the limit of nodes is exceeded.
 fn round(
     alloc: Global,
     modules: &Modules,
@@ -287,7 +287,7 @@ fn round(
     Ok(Some(still))
 }
 
-/// Carries augments out, in rounds. The answer is those that are left, or none where there are more nodes than are taken.
+/// Applies augments in rounds. The answer is the pending ones, or none if the limit of nodes is exceeded.
 pub(crate) fn rounds(
     alloc: Global,
     modules: &Modules,
@@ -340,7 +340,7 @@ fn augments_of(alloc: Global, rows: &[Row]) -> Result<Vec<usize>, NoMemory>
     Ok(augments)
 }
 
-/// Carries out all augments. The answer is those that are left, or none where there are more nodes than are taken.
+/// Applies all augments. The answer is the pending ones, or none if the limit of nodes is exceeded.
 pub(crate) fn augment(
     alloc: Global,
     modules: &Modules,
@@ -368,7 +368,7 @@ fn with_target(best: Option<Found>, rows: &[Row], k: usize) -> Option<Found>
     }
 }
 
-/// The first of the augments that are left.
+/// The first of the pending augments.
 pub(crate) fn target_fault(rows: &[Row], left: &[usize]) -> Option<Found>
     ensures { result ≡ least None (spec.target_faults rows.now left.now) }
 {

@@ -1,4 +1,4 @@
-//! Nodes of one name where names differ.
+//! Nodes whose name is not unique in its scope.
 ghost use Rattle.std.specs.Prelude.{◌≡◌, ◌+◌, ◌||◌, [], None, Some, IfOk, is_none, is_some, take, if◌then◌else◌};
 ghost use Rattle.std.specs.List.{slice_get};
 ghost use Rattle.std.specs.BTreeMap.{get};
@@ -33,7 +33,7 @@ fn is_case(rows: &[Row], node: &Node) -> bool
     }
 }
 
-/// The node above a choice or a case, if this is one.
+/// The parent of a choice or a case, if the node is one.
 fn passed(rows: &[Row], nodes: &[Node], place: Option<u32>) -> Option<Option<u32>>
     ensures { result ≡ spec.passed rows.now nodes.now place }
 {
@@ -52,7 +52,7 @@ fn passed(rows: &[Row], nodes: &[Node], place: Option<u32>) -> Option<Option<u32
     }
 }
 
-/// The closest node, from this one upwards, that is no choice and no case.
+/// The closest node, from this one upwards, that is neither choice nor case.
 fn data_parent(rows: &[Row], nodes: &[Node], levels: usize, place: Option<u32>) -> Option<u32>
     ensures { result ≡ spec.data_parent levels rows.now nodes.now place }
 {
@@ -76,14 +76,14 @@ fn scope_of(rows: &[Row], nodes: &[Node], node: &Node) -> Option<u32>
     }
 }
 
-/// What tells nodes apart.
+/// What must differ between two nodes.
 #[derive(Drop, PartialEq, Eq, PartialOrd, Ord)]
 pub(crate) struct Key {
     /// Whether it is a case.
     pub case: bool,
-    /// The choice of a case, or the data node above another node.
+    /// Its scope: the choice of a case, or the closest data node above another node.
     pub scope: Option<u32>,
-    /// The number of its module.
+    /// The index of its module.
     pub module: u32,
     /// Its name.
     pub name: Str,
@@ -101,7 +101,7 @@ fn key_of(alloc: Global, rows: &[Row], nodes: &[Node], node: &Node) -> Result<Ke
     })
 }
 
-/// The key has this number, whatever it had. The answer is whether it had none.
+/// Sets the number of the key. The answer is whether the key had none.
 fn put_key(map: &mut BTreeMap<Key, usize>, key: Key, k: usize) -> Result<bool, NoMemory>
     ensures first { IfOk result (λ first. first ≡ is_none (get spec.key_cmp map.old key)) }
     ensures known { IfOk result (λ _. (q : Knot) → is_some (get spec.key_cmp map.new q) ≡ (is_some (get spec.key_cmp map.old q) || spec.same_key key q)) }
@@ -110,7 +110,7 @@ fn put_key(map: &mut BTreeMap<Key, usize>, key: Key, k: usize) -> Result<bool, N
     Ok(old.is_none())
 }
 
-/// The map with the keys of the nodes before a node gets that of the node. The answer is whether it is a choice or the first with its key.
+/// Adds the key of a node to the map of those before it. The answer is whether the node is a choice or the first with its key.
 fn put_node(
     alloc: Global,
     rows: &[Row],
@@ -132,7 +132,7 @@ fn put_node(
     Ok(first)
 }
 
-/// The least of this fault and that of a node, if it is not the first with its key.
+/// The first of this fault and that of a node, if it is not the first with its key.
 fn with_node(best: Option<Found>, rows: &[Row], node: &Node, first: bool) -> Option<Found>
     ensures { result ≡ least best (if first then [] else spec.fault_at (slice_get rows.now node.now.row)) }
 {
@@ -145,7 +145,7 @@ fn with_node(best: Option<Found>, rows: &[Row], node: &Node, first: bool) -> Opt
     }
 }
 
-/// The first of the nodes that have the key of another one before them.
+/// The first node whose key an earlier node has.
 pub(crate) fn child_fault(
     alloc: Global,
     rows: &[Row],

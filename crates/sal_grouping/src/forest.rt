@@ -3,10 +3,10 @@ ghost use Rattle.std.specs.Prelude.{◌≡◌};
 
 use std::marker::Model;
 
-/// A node without a statement of its own.
+/// A node without its own statement.
 #[derive(Clone, Copy, PartialEq, Eq)]
 pub enum Implied {
-    /// The case round a node that stands directly in a choice.
+    /// The case around a node that is directly in a choice.
     Case,
     /// The input of an RPC that has no `input`.
     Input,
@@ -19,17 +19,17 @@ pub enum Implied {
 pub struct Branch {
     /// The number of the node above it, or none at the top.
     pub parent: Option<u32>,
-    /// The number of the module that it belongs to.
+    /// The index of the module that it belongs to.
     pub module: u32,
-    /// The number of the module in which its statement stands.
+    /// The index of the module of its statement.
     pub source: u32,
-    /// How many bytes of that module's text stand before its statement.
+    /// The byte offset of its statement in that module's text.
     pub at: u32,
-    /// What it is, where it has no statement. It then has the place of the node inside the case, or of the RPC.
+    /// The kind of an implied node. Its offset is then that of the node in the case, or of the RPC.
     pub implied: Option<Implied>,
 }
 
-/// The nodes of a schema, in the order of their numbers. It is seen as that list.
+/// The nodes of a schema, in the order of their numbers. A contract sees the list.
 #[derive(Drop)]
 pub struct Forest {
     list: Vec<Branch>,

@@ -15,7 +15,7 @@ use sal_module::Keyword;
 use sal_types::NoMemory;
 use std::alloc::Global;
 
-/// A node to be: its statement, and what it is where it has none of its own.
+/// A node to be added: its statement, and the kind of an implied node.
 pub(crate) type Seed = (usize, Option<Implied>);
 
 pub(crate) fn keyword_at(rows: &[Row], k: usize) -> Option<Keyword>
@@ -36,7 +36,7 @@ pub(crate) fn is_keyword(rows: &[Row], keyword: Keyword, k: usize) -> bool
     }
 }
 
-// ---- what stands below a node
+// ---- the children of a node
 
 fn in_choice(rows: &[Row], k: usize) -> Seed
     ensures { result ≡ growth.in_choice rows.now k }
@@ -68,7 +68,7 @@ fn plain_of(alloc: Global, nodes: &[usize]) -> Result<Vec<Seed>, NoMemory>
     Ok(seeds)
 }
 
-/// The nodes of a block, as they stand below a node of this kind, or none where they are more than are taken.
+/// The nodes of a block, as children of a node of this kind, or none if they exceed the limit.
 pub(crate) fn seeds_in(
     alloc: Global,
     plan: &Plan,
@@ -110,7 +110,7 @@ pub(crate) fn find_inside(plan: &Plan, keyword: Keyword, block: usize) -> Option
     find_keyword(&plan.rows, keyword, plan.inside[block].as_slice())
 }
 
-/// The input or the output of an RPC, written or not.
+/// The input or the output of an RPC, written or implied.
 fn param(plan: &Plan, rpc: usize, keyword: Keyword, side: Implied) -> Seed
     requires { IsPlan plan.now.rows.items plan.now.named.items plan.now }
     ensures { result ≡ growth.param plan.now.rows.items rpc keyword side }
@@ -143,7 +143,7 @@ fn below_row(alloc: Global, plan: &Plan, k: usize) -> Result<Option<Vec<Seed>>, 
     }
 }
 
-/// What stands directly below a node, or none where that is more than is taken.
+/// The children of a node, or none if they exceed the limit.
 fn below(alloc: Global, plan: &Plan, seed: Seed) -> Result<Option<Vec<Seed>>, NoMemory>
     requires { IsPlan plan.now.rows.items plan.now.named.items plan.now }
     ensures { IfOk result (λ r. MatchOption r (65536 < length (growth.below plan.now.rows.items plan.now.named.items seed))
@@ -162,7 +162,7 @@ fn below(alloc: Global, plan: &Plan, seed: Seed) -> Result<Option<Vec<Seed>>, No
 
 // ---- growth
 
-/// Nodes that are still to be added: children of one node, from a place on, with so many levels below them.
+/// Nodes that are still to be added: children of one node, from an index on, with `levels` levels below them.
 #[derive(Drop)]
 struct Frame {
     parent: Option<u32>,
@@ -182,7 +182,7 @@ fn node_of(owner: u32, parent: Option<u32>, seed: Seed) -> Node
     }
 }
 
-/// The children of a node are added next, if there may be any, or they are more than are taken.
+/// The children of a node are added next, if it may have any, unless they exceed the limit.
 fn push_below(
     alloc: Global,
     plan: &Plan,
@@ -216,8 +216,8 @@ fn push_below(
     }
 }
 
-/// The next node of a frame, if there is one, is added, and its children come next; or they are more than are taken. Each node
-/// that is added leaves at most two frames more than there were without this one.
+/// Adds the next node of a frame, if any, and schedules its children, unless they exceed the limit. Each node added makes at
+/// most two more frames than there were without this one.
 fn grow_one(
     alloc: Global,
     plan: &Plan,
@@ -253,7 +253,7 @@ fn grow_one(
     Ok(all)
 }
 
-/// Adds these nodes, as children of one node, and all that is below them. The answer is whether all are in it: past 65,536 it ends.
+/// Adds these nodes as children of one node, with all below them. The answer is false if the nodes exceed 65,536.
 pub(crate) fn grow(
     alloc: Global,
     plan: &Plan,

@@ -1,4 +1,4 @@
-//! Tables beside the list of statements: what stands in each block, and the first definition of each name there.
+//! Indexes of the list of statements: the statements in each block, and the first definition of each name there.
 ghost use Rattle.std.specs.Prelude.{◌≡◌, ◌<◌, ◌++◌, [], ℕ, List, IfOk, Some, None, length, slice_index_or};
 ghost use Rattle.std.specs.BTreeMap.{get_by_text};
 ghost use Rattle.sal_module.specs.Keywords.{same};
@@ -14,7 +14,7 @@ use std::collections::BTreeMap;
 /// The number of the definition of each name.
 pub(crate) type Names = BTreeMap<String, usize>;
 
-/// So many empty lists.
+/// `count` empty lists.
 pub(crate) fn empty_lists(alloc: Global, count: usize) -> Result<Vec<Vec<usize>>, NoMemory>
     ensures count { IfOk result (λ all. length (spec.lists all.items) ≡ count) }
     ensures each { IfOk result (λ all. (b : ℕ) → slice_index_or (spec.lists all.items) b [] ≡ []) }
@@ -26,7 +26,7 @@ pub(crate) fn empty_lists(alloc: Global, count: usize) -> Result<Vec<Vec<usize>>
     Ok(all)
 }
 
-/// The value goes behind the list of its key, where there is one.
+/// Appends the value to the list of its key, if it has a key in range.
 pub(crate) fn pick(
     all: &mut Vec<Vec<usize>>,
     key: Option<usize>,
@@ -57,7 +57,7 @@ pub(crate) fn inside_of(alloc: Global, rows: &[Row]) -> Result<Vec<Vec<usize>>, 
     Ok(all)
 }
 
-/// The name has this number, where it has none.
+/// Sets the number of the name, if it has none.
 fn define(map: &mut Names, alloc: Global, name: &str, k: usize) -> Result<(), NoMemory>
     ensures { IfOk result (λ _. (q : List ℕ) → get_by_text map.new q ≡ spec.with_first (get_by_text map.old q) (same name.now q) k) }
 {
@@ -67,7 +67,7 @@ fn define(map: &mut Names, alloc: Global, name: &str, k: usize) -> Result<(), No
     Ok(())
 }
 
-/// A statement defines its name in its block, where it has this keyword.
+/// Adds the definition of a statement to its block, if it has this keyword.
 fn define_row(
     maps: &mut Vec<Names>,
     alloc: Global,

@@ -10,13 +10,13 @@ use crate::rows::Row;
 use sal_module::{Keyword, Modules};
 use sal_types::Str;
 
-/// How many statements stand in one another.
+/// The largest depth of nested statements.
 pub(crate) const MAX_DEPTH: u32 = 65;
 
-/// A name and the number of its module, where its prefix is known.
+/// A name and the index of its module, if its prefix is known.
 pub(crate) type Step = (Option<u32>, Str);
 
-/// The module of which a name in a module speaks.
+/// The module that a name in a module refers to.
 pub(crate) fn module_of(modules: &Modules, number: u32, text: &str) -> Option<u32>
     ensures { result ≡ spec.module_of modules.now number text.now }
 {
@@ -36,7 +36,7 @@ pub fn local_name<'s>(text: &'s str) -> &'s str
     }
 }
 
-/// What a name stands for in a block.
+/// The statement that a name refers to in a block.
 pub(crate) fn first_of(
     rows: &[Row],
     keyword: Keyword,
@@ -62,7 +62,7 @@ pub(crate) fn around_of(rows: &[Row], b: usize) -> Option<usize>
     }
 }
 
-/// The grouping of this name that the closest block has, from this one outwards.
+/// The grouping of this name in the closest block, from this one outwards.
 fn from_block(
     rows: &[Row],
     groupings: &[Names],
@@ -85,7 +85,7 @@ fn from_block(
     }
 }
 
-/// The grouping of a statement's name in a module, for the statement in its block.
+/// The grouping that a name refers to, in a block of a module.
 fn grouping_in(
     modules: &Modules,
     rows: &[Row],
@@ -107,7 +107,7 @@ fn grouping_in(
     first_of(rows, Keyword::Grouping, groupings, top, name)
 }
 
-/// The first statement of a module, or the number behind the last statement where there is no such module.
+/// The first statement of a module, or the length of the list if no module has this index.
 pub(crate) fn top_of(modules: &Modules, rows: &[Row], tops: &[usize], m: u32) -> usize
     requires tops { index.AreTops modules.now tops.now }
     requires rows { rows.now ≡ rows_spec.rows_of modules.now }
@@ -119,7 +119,7 @@ pub(crate) fn top_of(modules: &Modules, rows: &[Row], tops: &[usize], m: u32) ->
     }
 }
 
-/// The grouping that a `uses` names, if this is one.
+/// The grouping that a statement names, if it is a `uses`.
 pub(crate) fn named_by(
     modules: &Modules,
     rows: &[Row],

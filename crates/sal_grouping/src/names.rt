@@ -1,4 +1,4 @@
-//! The faults of names: of groupings and prefixes that nothing defines, of groupings that use themselves, of double definitions.
+//! The faults of names: unknown groupings and prefixes, groupings that use themselves, double definitions.
 ghost use Rattle.std.specs.Prelude.{◌≡◌, ◌==◌, ◌<◌, ◌++◌, [], length, map, is_none, Some, None, IfOk, IfSome, if◌then◌else◌};
 ghost use Rattle.std.specs.List.{list_any, slice_split};
 ghost use Rattle.sal_module.specs.declared.keyword.Keyword.TheVariants as word;
@@ -19,7 +19,7 @@ use sal_module::{Cause, Found, Keyword, Modules, better};
 use sal_types::{NoMemory, Str};
 use std::alloc::Global;
 
-/// The least of this fault and one with this cause at a statement.
+/// The first of this fault and one of this kind at a statement.
 pub(crate) fn with_fault(best: Option<Found>, cause: Cause, row: &Row) -> Option<Found>
     ensures { result ≡ least best (spec.at_row cause row.now) }
 {
@@ -42,7 +42,7 @@ fn step_of(modules: &Modules, number: u32, text: &str, alloc: Global) -> Result<
     Ok((module_of(modules, number, text), name))
 }
 
-/// The names of a text, each behind a `/` but the first.
+/// The names of a path, each after a `/`, except the first.
 fn steps_of(
     alloc: Global,
     modules: &Modules,
@@ -113,7 +113,7 @@ fn home(rows: &[Row], levels: u32, block: Option<usize>) -> Option<usize>
     }
 }
 
-/// The groupings that each one names.
+/// The groupings that each grouping names.
 fn edges_of(
     alloc: Global,
     modules: &Modules,
@@ -214,7 +214,7 @@ fn with_double(
     }
 }
 
-/// What the faults of names are judged by.
+/// The graph of groupings.
 #[derive(Drop)]
 struct Graph {
     edges: Vec<Vec<usize>>,
@@ -232,7 +232,7 @@ fn graph_of(alloc: Global, modules: &Modules, t: &Tables) -> Result<Graph, NoMem
     Ok(Graph { edges, ranks })
 }
 
-/// The least of this fault and that of a `uses` by which the grouping around it uses itself.
+/// The first of this fault and that of a `uses` through which the grouping around it uses itself.
 fn with_cycle(
     best: Option<Found>,
     alloc: Global,
@@ -253,7 +253,7 @@ fn with_cycle(
     Ok(best)
 }
 
-/// What the faults of the names in modules are judged by: their statements with what these name, and the groupings' graph.
+/// The input for the faults of names: the statements of the modules with their references, and the graph of groupings.
 #[derive(Clone, Copy)]
 struct Judging<'x> {
     alloc: Global,
@@ -263,7 +263,7 @@ struct Judging<'x> {
 }
 
 impl<'x> Judging<'x> {
-    /// The least of this fault and those of a `uses`.
+    /// The first of this fault and those of a `uses`.
     fn with_uses(&self, best: Option<Found>, row: &Row) -> Result<Option<Found>, NoMemory>
         requires tables { AreTables self.now.modules.now self.now.tables.now }
         requires count { length self.now.graph.now.edges.items ≡ length self.now.tables.now.rows.items }
@@ -278,7 +278,7 @@ impl<'x> Judging<'x> {
         with_cycle(best, self.alloc, &t.rows, self.graph, used, row)
     }
 
-    /// The least of this fault and those of a statement.
+    /// The first of this fault and those of a statement.
     fn with_row(&self, best: Option<Found>, k: usize, row: &Row) -> Result<Option<Found>, NoMemory>
         requires tables { AreTables self.now.modules.now self.now.tables.now }
         requires count { length self.now.graph.now.edges.items ≡ length self.now.tables.now.rows.items }

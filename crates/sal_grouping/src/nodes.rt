@@ -1,4 +1,4 @@
-//! The nodes of a block, with `uses` carried out.
+//! The nodes of a block, with `uses` applied.
 ghost use Rattle.std.specs.Prelude.{◌≡◌, ◌<◌, ◌+◌, ◌++◌, ◌^◌, ℕ, List, Option, IfOk, IfSome, MatchOption, length};
 ghost use Rattle.std.specs.List.{slice_get};
 ghost use Rattle.sal_grouping.specs.declared.rows.Row.{Row as Statement};
@@ -11,10 +11,10 @@ use crate::plan::{Plan, is_marked, is_node, named_at};
 use sal_types::NoMemory;
 use std::alloc::Global;
 
-/// The most nodes that are taken.
+/// The largest number of nodes.
 pub(crate) const MAX_NODES: usize = 65_536;
 
-/// A block that is gone through: from which statement on, and how many `uses` deep it may go on.
+/// A visit of a block: the index of the next statement, and how many levels of `uses` it may still follow.
 #[derive(Clone, Copy)]
 struct Visit {
     block: usize,
@@ -22,7 +22,7 @@ struct Visit {
     levels: usize,
 }
 
-/// The statement at a place of a block.
+/// The statement at an index of a block.
 fn statement_at(plan: &Plan, block: usize, place: usize) -> Option<usize>
     requires { IsPlan plan.now.rows.items plan.now.named.items plan.now }
     ensures value { result ≡ slice_get (rows_spec.inside plan.now.rows.items block) place }
@@ -34,7 +34,7 @@ fn statement_at(plan: &Plan, block: usize, place: usize) -> Option<usize>
     plan.inside[block].get(place).copied()
 }
 
-/// A block is gone through next, if `uses` may still be carried out.
+/// Visits a block next, if `uses` may still be followed.
 fn push_block(visits: &mut Vec<Visit>, block: usize, levels: usize) -> Result<(), NoMemory>
     ensures left { IfOk result (λ _. (rows : List Statement) (named : List (Option ℕ)) →
         spec.all_left rows named visits.new.items ≡ growth.nodes_within levels rows named block ++ spec.all_left rows named visits.old.items) }
@@ -51,7 +51,7 @@ fn push_block(visits: &mut Vec<Visit>, block: usize, levels: usize) -> Result<()
     Ok(())
 }
 
-/// The next statement of a block: a node goes behind the others, and a grouping that it names is gone through first.
+/// The next statement of a block: a node is appended, and a grouping that the statement names is visited first.
 fn visit_one(
     plan: &Plan,
     visits: &mut Vec<Visit>,
@@ -89,9 +89,9 @@ fn visit_one(
     }
 }
 
-/// The nodes of a block, or none where they are more than are taken.
+/// The nodes of a block, or none if they exceed the limit.
 ///
-/// It takes the time of the statements that it goes through; blocks without nodes are passed over.
+/// It takes the time of the statements that it visits; blocks without nodes are skipped.
 pub(crate) fn nodes_in(
     alloc: Global,
     plan: &Plan,

@@ -1,4 +1,4 @@
-//! What the tree grows by: the statements of each block, the groupings that they name, and which blocks have no nodes.
+//! The input of growth: the statements of each block, the groupings that they name, and which blocks have no nodes.
 ghost use Rattle.std.specs.Prelude.{◌≡◌, ◌<◌, ◌&&◌, false, None, IfOk, IsTrue, unwrap_or, slice_index_or};
 ghost use Rattle.std.specs.List.{list_all, slice_get};
 ghost use Rattle.sal_grouping.specs.Rows as rows_spec;
@@ -16,7 +16,7 @@ use sal_module::{Keyword, Modules};
 use sal_types::NoMemory;
 use std::alloc::Global;
 
-/// The statements, what stands in the block of each, and the grouping that it names.
+/// The statements, the block of each, and the grouping that it names.
 #[derive(Drop)]
 pub(crate) struct Plan {
     /// The statements.
@@ -31,7 +31,7 @@ pub(crate) struct Plan {
     pub bare: Vec<bool>,
 }
 
-/// Whether a statement makes a node where it stands.
+/// Whether a statement makes a node of its block.
 pub(crate) fn is_node(rows: &[Row], k: usize) -> bool
     ensures { result ≡ growth.is_node (rows_spec.keyword_at rows.now k) }
 {
@@ -64,7 +64,7 @@ fn named_of(alloc: Global, modules: &Modules, t: &Tables) -> Result<Vec<Option<u
 
 // ---- blocks without nodes
 
-/// By which blocks each grouping is named, and the blocks in which a node stands.
+/// The blocks that name each grouping, and the blocks that have a node.
 fn namers_of(
     alloc: Global,
     rows: &[Row],
@@ -111,7 +111,7 @@ fn all_bare(alloc: Global, count: usize) -> Result<Vec<bool>, NoMemory> {
     Ok(bare)
 }
 
-/// A block with nodes is marked no more. Those that name it are to be looked at, if it was marked.
+/// Clears the mark of a block with nodes. If it was marked, the blocks that name it are looked at next.
 fn unmark(
     bare: &mut Vec<bool>,
     full: &mut Vec<usize>,
@@ -125,7 +125,7 @@ fn unmark(
     Ok(())
 }
 
-/// Which blocks have no nodes. Each block is marked and unmarked once at most, and each `uses` followed once.
+/// Which blocks have no nodes. Each block is marked and cleared once at most, and each `uses` followed once.
 fn bare_blocks(
     alloc: Global,
     rows: &[Row],
@@ -167,7 +167,7 @@ fn has_no_nodes(rows: &[Row], named: &[Option<usize>], bare: &[bool], block: &[u
     block.iter().all(|k| is_bare(rows, named, bare, *k))
 }
 
-/// Whether the marks are right.
+/// Whether the marks are correct.
 fn are_bare(rows: &[Row], named: &[Option<usize>], bare: &[bool], inside: &[Vec<usize>]) -> bool
     requires { index.AreInside rows.now (index.lists inside.now) }
     ensures { IsTrue result → spec.AreBare rows.now named.now bare.now }
@@ -200,7 +200,7 @@ fn bare_of(
     Ok(Vec::new(alloc))
 }
 
-/// The plan by which the tree of these modules grows.
+/// The plan for the tree of these modules.
 pub(crate) fn plan_of(alloc: Global, modules: &Modules, t: Tables) -> Result<Plan, NoMemory>
     requires { AreTables modules.now t }
     ensures planned { IfOk result (λ plan. spec.IsPlan (rows_spec.rows_of modules.now) (groupings_spec.named_of modules.now (rows_spec.rows_of modules.now)) plan) }

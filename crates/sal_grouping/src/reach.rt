@@ -12,7 +12,7 @@ use std::alloc::Global;
 
 // ---- ranks
 
-/// How many groupings each one names, and by which it is named.
+/// How many groupings each grouping names, and which ones name it.
 fn turned(alloc: Global, edges: &[Vec<usize>]) -> Result<(Vec<usize>, Vec<Vec<usize>>), NoMemory> {
     let mut counts = Vec::with_capacity(alloc, edges.len())?;
     let mut users = empty_lists(alloc, edges.len())?;
@@ -74,7 +74,7 @@ fn count_users(
     Ok(())
 }
 
-/// Each grouping's rank: above those of all that it names, or the last one where a way leads from it into a cycle.
+/// Each grouping's rank: above those of all that it names, or the last rank if a path leads from it into a cycle.
 fn ranks_of(alloc: Global, edges: &[Vec<usize>]) -> Result<Vec<usize>, NoMemory> {
     let (counts, users) = turned(alloc, edges)?;
     let mut counts = counts;
@@ -104,7 +104,7 @@ fn is_above(ranks: &[usize], high: usize, out: &[usize]) -> bool
     out.iter().all(|k| rank_at(ranks, *k) <= high)
 }
 
-/// Whether no grouping has a lower rank than one that it names.
+/// Whether each grouping's rank is at least those of the groupings that it names.
 fn is_ranked(edges: &[Vec<usize>], ranks: &[usize]) -> bool
     ensures { IsTrue result → spec.IsRanked (lists edges.now) ranks.now }
 {
@@ -118,7 +118,7 @@ fn is_ranked(edges: &[Vec<usize>], ranks: &[usize]) -> bool
 
 // ---- together
 
-/// The rank of each grouping, or none where they are of no use.
+/// The rank of each grouping, or none if some grouping names one of a higher rank.
 pub fn ranking(alloc: Global, edges: &[Vec<usize>]) -> Result<Option<Vec<usize>>, NoMemory>
     ensures { IfOk result (λ ranking. IfSome ranking (λ ranks. spec.IsRanked (lists edges.now) ranks.items)) }
 {
@@ -138,10 +138,10 @@ fn is_below(ranking: &Option<Vec<usize>>, used: usize, g: usize) -> bool
     }
 }
 
-/// Whether a grouping is the one that it names, or is reached from there.
+/// Whether `g` is the grouping `used`, or is reached from it.
 ///
-/// Where no way leads from there into a cycle, that takes no time. Elsewhere it takes that of all groupings' names, for each
-/// step of the longest way to it.
+/// If no path leads from `used` into a cycle, that takes no time. Otherwise it takes the time of all groupings' names for each
+/// step of the longest path to it.
 pub fn reaches(
     alloc: Global,
     edges: &[Vec<usize>],

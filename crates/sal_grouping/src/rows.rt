@@ -7,21 +7,21 @@ use sal_stmt::Stmt;
 use sal_types::{NoMemory, Str};
 use std::alloc::Global;
 
-/// How deep the blocks of a statement may be open in one another.
+/// The largest depth of nested blocks of a statement.
 const MAX_BLOCKS: u32 = 64;
 
-/// A statement, known by its number in the list.
+/// A statement. Its number is its index in the list.
 #[derive(Drop)]
 pub(crate) struct Row {
-    /// The number of the module in which it stands.
+    /// The index of its module.
     pub module: u32,
-    /// The number of the statement in whose block it stands.
+    /// The number of the statement whose block it is in.
     pub around: Option<usize>,
     /// Its keyword.
     pub keyword: Keyword,
     /// Its argument.
     pub name: Str,
-    /// How many bytes of the text stand before it.
+    /// Its byte offset in the text.
     pub at: u32,
 }
 
@@ -80,7 +80,7 @@ fn push_row(
     Ok(())
 }
 
-/// A statement and those in so many levels below it go behind these.
+/// Appends a statement and those in `levels` levels below it.
 fn push_rows(
     rows: &mut Vec<Row>,
     alloc: Global,

@@ -1,4 +1,4 @@
-//! The list of statements of modules, with the tables beside it.
+//! The list of statements of modules, with its indexes.
 ghost use Rattle.std.specs.Prelude.{◌≡◌, IfOk};
 ghost use Rattle.sal_module.specs.declared.keyword.Keyword.TheVariants.{Grouping, Typedef};
 ghost use Rattle.sal_grouping.specs.Defined.{AreDefined};
@@ -12,7 +12,7 @@ use sal_module::{Keyword, Modules};
 use sal_types::NoMemory;
 use std::alloc::Global;
 
-/// The statements of all modules, and what is looked up there.
+/// The statements of all modules, with indexes.
 #[derive(Drop)]
 pub(crate) struct Tables {
     /// The statements.
@@ -23,9 +23,9 @@ pub(crate) struct Tables {
     pub inside: Vec<Vec<usize>>,
     /// The groupings in the block of each one, by name.
     pub groupings: Vec<Names>,
-    /// The typedefs there.
+    /// The typedefs there, by name.
     pub typedefs: Vec<Names>,
-    /// The identities there.
+    /// The identities there, by name.
     pub identities: Vec<Names>,
 }
 
@@ -36,7 +36,7 @@ pub(crate) struct Defined {
     identities: Vec<Names>,
 }
 
-// Each of these owns one value over one early exit, which keeps their proofs short.
+// Each of these functions makes one value with one early exit, which keeps the proofs short.
 
 fn defined_in(alloc: Global, rows: &[Row]) -> Result<Defined, NoMemory>
     ensures { IfOk result (λ d. AreDefined rows.now d) }

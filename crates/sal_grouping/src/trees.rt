@@ -13,7 +13,7 @@ use sal_module::Modules;
 use sal_types::NoMemory;
 use std::alloc::Global;
 
-/// The nodes of a module go behind the others. The answer is whether all are in it.
+/// Appends the nodes of a module. The answer is false if the limit is exceeded.
 pub(crate) fn push_module(
     alloc: Global,
     modules: &Modules,
@@ -39,7 +39,7 @@ pub(crate) fn push_module(
     }
 }
 
-/// The nodes of all modules, or none where they are more than are taken.
+/// The nodes of all modules, or none if they exceed the limit.
 pub(crate) fn trees_of(
     alloc: Global,
     modules: &Modules,

@@ -7,7 +7,7 @@ ghost use Rattle.sal_grouping.specs.VersionExamples as version;
 use crate::forest::Implied;
 use sal_module::Cause;
 
-/// The definitions give what the examples say. A call does nothing: its clauses are the laws.
+/// The examples as clauses. A call does nothing.
 pub fn examples()
     ensures uses { expand example.a_uses ≡ example.nodes (example.branch None 20 None ∷ []) }
     ensures shadow { expand example.a_shadow ≡ example.nodes (example.branch None 30 None ∷ example.branch (Some 0) 50 None ∷ []) }
@@ -24,8 +24,8 @@ pub fn examples()
     ensures children { expand example.two_children ≡ example.refused Cause.DoubleNode 30 }
 {}
 
-/// A later version keeps the numbers of the earlier one, while both modules at once are numbered otherwise. A call does nothing: its clauses
-/// are the laws.
+/// A later version keeps the numbers of the earlier one; both modules built at once get other numbers. A call does nothing:
+/// its clauses are the laws.
 pub fn versions()
     ensures at_once { version.at_once ≡ Ok (version.node None 0 1 ∷ version.node None 1 5 ∷ version.node (Some 0) 0 3 ∷ version.node (Some 1) 1 7 ∷ []) }
     ensures later { version.later ≡ Ok (version.node None 0 1 ∷ version.node (Some 0) 0 3 ∷ version.node None 1 5 ∷ version.node (Some 2) 1 7 ∷ []) }

@@ -1,4 +1,4 @@
-//! The nodes of a version of modules, from which the next version grows.
+//! The nodes of a version of modules, with which the next version begins.
 ghost use Rattle.std.specs.Prelude.{◌≡◌, ◌<◌, ◌≤◌, ◌-◌, ◌++◌, IfOk, IfSome, IfNone, IsSome, MatchOption, true, false, map, length};
 ghost use Rattle.sal_types.specs.Reading.{GivesUnless};
 ghost use Rattle.sal_grouping.specs.Expand.{branch_of};
@@ -24,7 +24,7 @@ use sal_types::NoMemory;
 use std::alloc::Global;
 use std::marker::Model;
 
-/// The nodes of a version, in the order of their numbers, each with its statement. The next version grows from them. A contract sees the list.
+/// The nodes of a version, in the order of their numbers, each with its statement. The next version adds to them. A contract sees the list.
 #[derive(Drop)]
 pub struct Growth {
     list: Vec<Node>,
@@ -42,7 +42,7 @@ impl Model for Growth {
 }
 
 impl Growth {
-    /// The nodes as a forest. `modules` are those of the version, or begin with them.
+    /// The nodes as a forest. `modules` are those of the version, or have them as a prefix.
     pub fn forest(&self, alloc: Global, modules: &Modules) -> Result<Forest, NoMemory>
         ensures forest { IfOk result (λ forest. forest ≡ map (branch_of (rows_of modules.now)) self.now) }
         ensures few { IfOk result (λ forest. length forest ≤ 65536) }
@@ -55,7 +55,7 @@ impl Growth {
 
 // ---- the first version
 
-/// The nodes that grow by this plan, or the first of the faults that are looked for after those of names.
+/// The nodes by this plan, or the first fault of the checks after names.
 fn grown_first(alloc: Global, modules: &Modules, plan: &Plan) -> Result<Growth, BuildFault>
     requires planned { IsPlan plan.now.rows.items plan.now.named.items plan.now }
     requires rows { plan.now.rows.items ≡ rows_of modules.now }
@@ -86,9 +86,9 @@ pub fn first_growth(alloc: Global, modules: &Modules) -> Result<Growth, BuildFau
     grow_tables(alloc, modules, tables_of(alloc, modules)?)
 }
 
-// ---- what is new
+// ---- the additions
 
-/// Adds the nodes of the modules from number `old` on, at the end. The answer is false where that makes too many nodes.
+/// Appends the nodes of the modules from index `old` on. The answer is false if that exceeds the limit.
 fn trees_on(
     alloc: Global,
     modules: &Modules,
@@ -129,7 +129,7 @@ fn push_new_augment(
     Ok(())
 }
 
-/// The augments of the modules from number `old` on, in the order of the modules and their texts.
+/// The augments of the modules from index `old` on, in the order of the modules and their texts.
 fn new_augments(alloc: Global, old: u32, rows: &[Row]) -> Result<Vec<usize>, NoMemory>
     ensures { IfOk result (λ augments. augments.items ≡ spec.new_augments old rows.now) }
 {
@@ -140,7 +140,7 @@ fn new_augments(alloc: Global, old: u32, rows: &[Row]) -> Result<Vec<usize>, NoM
     Ok(augments)
 }
 
-/// Carries out the new augments in rounds. The answer is those that are left, or none where there are too many nodes.
+/// Applies the new augments in rounds. The answer is the pending ones, or none if the limit of nodes is exceeded.
 fn augment_on(
     alloc: Global,
     modules: &Modules,
@@ -160,7 +160,7 @@ fn augment_on(
     Ok(left)
 }
 
-/// The nodes with all that is new, and the augments that are left, or none where there are too many nodes.
+/// The nodes with all additions, and the pending augments, or none if the limit of nodes is exceeded.
 fn built_on(
     alloc: Global,
     modules: &Modules,
@@ -189,7 +189,7 @@ fn built_on(
 
 // ---- a version
 
-/// These nodes, or the first fault: of the augments that are left, then of the names of children.
+/// These nodes, or the first fault: of the pending augments, then of the names of children.
 fn growth_of(
     alloc: Global,
     rows: &[Row],
@@ -208,7 +208,7 @@ fn growth_of(
     Ok(Growth { list: nodes })
 }
 
-/// The older nodes with those that grow after them, or the first of the faults that are looked for after those of names.
+/// The older nodes with the additions after them, or the first fault of the checks after names.
 fn grown_on(
     alloc: Global,
     modules: &Modules,

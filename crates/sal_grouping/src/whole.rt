@@ -1,4 +1,4 @@
-//! The tree of modules that passed.
+//! The tree of checked modules.
 ghost use Rattle.std.specs.Prelude.{◌≡◌, ◌<◌, ◌≤◌, IfOk, MatchOption, map, length};
 ghost use Rattle.sal_types.specs.Reading.{GivesUnless};
 ghost use Rattle.sal_module.specs.Faults.{fault_of};
@@ -52,7 +52,7 @@ pub(crate) fn branches_of(
     Ok(list)
 }
 
-/// The nodes with every augment carried out, and the augments that are left, or none where there are more nodes than are taken.
+/// The nodes with every augment applied, and the pending augments, or none if the limit of nodes is exceeded.
 pub(crate) fn built(
     alloc: Global,
     modules: &Modules,
@@ -74,7 +74,7 @@ pub(crate) fn built(
     }
 }
 
-/// The fault as callers get it.
+/// The fault as `BuildFault`.
 pub(crate) fn fault_in(alloc: Global, found: Found) -> BuildFault
     ensures { (result ≡ BuildFault.NoMemory → ⊥) → result ≡ fault_of found }
 {
@@ -84,7 +84,7 @@ pub(crate) fn fault_in(alloc: Global, found: Found) -> BuildFault
     }
 }
 
-/// The tree of these nodes, or the first fault of the augments that are left, then of the names of children.
+/// The tree of these nodes, or the first fault: of the pending augments, then of the names of children.
 fn forest_of(
     alloc: Global,
     rows: &[Row],
@@ -103,7 +103,7 @@ fn forest_of(
     Ok(Forest::from_items(branches_of(alloc, rows, nodes)?))
 }
 
-/// The tree that grows by this plan, or the first fault of those that come after names.
+/// The tree by this plan, or the first fault of the checks after names.
 fn grown(alloc: Global, modules: &Modules, plan: &Plan) -> Result<Forest, BuildFault>
     requires planned { IsPlan plan.now.rows.items plan.now.named.items plan.now }
     requires rows { plan.now.rows.items ≡ rows_of modules.now }
@@ -128,11 +128,11 @@ fn expand_tables(alloc: Global, modules: &Modules, tables: Tables) -> Result<For
     grown(alloc, modules, &plan)
 }
 
-/// The nodes of these modules, with every `uses` and every augment carried out, or the first fault.
+/// The nodes of these modules, with every `uses` and every augment applied, or the first fault.
 ///
-/// Each part is judged only where those before it found nothing: names, the number of nodes, the targets of augments, and
-/// the names of children. Within a part it is the fault with the smallest module, then the smallest place, then the
-/// smallest number. More than 65,536 nodes are `TooMany`.
+/// The checks run in this order, each only if those before it found nothing: names, the number of nodes, the targets of
+/// augments, and the names of children. Within one check the fault with the smallest module, then the smallest offset, then
+/// the smallest number is returned. More than 65,536 nodes are `TooMany`.
 pub fn expand(alloc: Global, modules: &Modules) -> Result<Forest, BuildFault>
     ensures { GivesUnless BuildFault.NoMemory (λ forest. forest) result (spec.expand modules.now) }
 {

@@ -1,7 +1,9 @@
 pub mod Bases
 pub mod Decisions
 pub mod Logs
+pub mod MountCalls
 mod Noted
+pub mod Numbered
 pub mod Numbers
 pub mod Placed
 pub mod Receipts

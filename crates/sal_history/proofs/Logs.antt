@@ -1,5 +1,5 @@
 -- What holds of each log: its receipts, and the open transactions of its chains.
-use Rattle.std.proofs.Common.{◌≡◌, ℕ, ◌+◌, ◌-◌, Bool, true, false, List, [], ◌∷◌, ◌++◌, length, Option, None, Some, refl, ap, sym, ◌∙◌, subst, cond, arith, inl, inr, ◌⊎◌, append-nil}
+use Rattle.std.proofs.Common.{◌≡◌, ℕ, suc, ◌+◌, ◌-◌, Bool, true, false, List, [], ◌∷◌, ◌++◌, length, Option, None, Some, refl, ap, sym, ◌∙◌, subst, cond, arith, inl, inr, ◌⊎◌, append-nil}
 use Rattle.std.specs.Prelude.{not, slice_get, unwrap_or, option_and_then, if◌then◌else◌, nat_eq, nat_lt}
 use Rattle.std.specs.List.{cons_option, fold, list_any}
 use Rattle.std.specs.Option.{option_map, option_map_or, option_or, option_to_list}
@@ -13,6 +13,7 @@ use Rattle.sal_rows.specs.declared.outcome.CallFault.{CallFault}
 use Rattle.sal_rows.specs.declared.outcome.CallFault.TheVariants.{ChainClosed, ChainFailed, NoDomain, PipelineFull, PreviousOpen, TxSpent}
 use Rattle.sal_rows.specs.declared.outcome.Outcome.{Outcome}
 use Rattle.sal_rows.specs.Spans.{is_of_chain}
+use Rattle.sal_rows.proofs.Applied.{or_assoc}
 use Rattle.sal_history.specs.declared.call.Call.{Call}
 use Rattle.sal_history.specs.declared.call.Call.TheVariants.{Begin, ChainBegin, Pump, Settle, Submit}
 use Rattle.sal_history.specs.declared.call.Entry.{Entry}
@@ -20,6 +21,7 @@ use Rattle.sal_history.specs.declared.reply.Reply.{Reply}
 use Rattle.sal_history.specs.declared.reply.Reply.TheVariants.{Begun, Receipt, Refused}
 use Rattle.sal_history.specs.Versions.{tables_now}
 use Rattle.sal_history.specs.World.{Domain, opening_of}
+use Rattle.sal_history.specs.Numbered.{numbered}
 use Rattle.sal_history.specs.Submissions.{Base, Sent, done, is_in, last_from}
 use Rattle.sal_history.specs.History.{Answered, answer, answered_as, base_on, began_at, began_by, begins_in, chain_refusal, chained_base, commits, decide_next, decided_by, domain_of, failed_by, fault_if, has_open, history, is_closed, is_live, is_spent, last_begun, newest_base, nowhere, outcomes, pending, refused_or, reply_to, sent_by, sents, spends, stands_on, submitted}
 use Rattle.sal_history.proofs.Bases.{over_newest, same_chain}
@@ -30,16 +32,18 @@ use Rattle.sal_history.proofs.Waiting.{pending_waits, waiting, waiting_plain}
 -- ---- lists
 
 -- the last element at which a test gives true, of a list with one more
-last_from-push : {X : Type 0} (n : ℕ) (test : X → Bool) (xs : List X) (x : X) → last_from n test (xs ++ x ∷ []) ≡ cond (test x) (Some (n + length xs)) (last_from n test xs)
-last_from-push n test [] x = let start : n ≡ n + 0 = omega arith in ap (λ k. cond (test x) (Some k) None) start
+pub last_from-push : {X : Type 0} (n : ℕ) (test : X → Bool) (xs : List X) (x : X) → last_from n test (xs ++ x ∷ []) ≡ option_or (if test x then Some (n + length xs) else None) (last_from n test xs)
+last_from-push n test [] x =
+    let here : n ≡ n + 0 = omega arith in
+    elim (test x) as (λ b. option_or None (if b then Some n else None) ≡ option_or (if b then Some (n + 0) else None) None) [ true ↦ ap Some here | false ↦ refl ]
 last_from-push n test (y ∷ xs) x =
-    let here : Option ℕ = if test y then Some n else None in
-    let far : n + 1 + length xs ≡ n + length (y ∷ xs) = omega arith in
-    ap (λ (o : Option ℕ). option_or o here) (last_from-push (n + 1) test xs x)
-    ∙ elim (test x) as (λ b. option_or (cond b (Some (n + 1 + length xs)) (last_from (n + 1) test xs)) here ≡ cond b (Some (n + length (y ∷ xs))) (option_or (last_from (n + 1) test xs) here)) [
-      | true ↦ ap Some far
-      | false ↦ refl
-    ]
+    let next : n + 1 + length xs ≡ n + suc (length xs) = omega arith in
+    ap (λ o. option_or o (if test y then Some n else None)) (last_from-push (n + 1) test xs x ∙ ap (λ k. option_or (if test x then Some k else None) (last_from (n + 1) test xs)) next)
+    ∙ or_assoc (if test x then Some (n + suc (length xs)) else None) (last_from (n + 1) test xs) (if test y then Some n else None)
+
+or_else : (b : Bool) (n : ℕ) (o : Option ℕ) → option_or (if b then Some n else None) o ≡ cond b (Some n) o
+or_else true n o = refl
+or_else false n o = refl
 
 -- ---- open transactions
 
@@ -87,7 +91,7 @@ module _ (world : List Domain) (answered : List Answered) (was : IsSound world a
 
   -- the submission on which a chain's next transaction stands
   abbrev before : ℕ → Option Sent
-  before chain = option_and_then (λ n. slice_get ss (n - 1)) (stands_on answered chain)
+  before chain = option_and_then (λ n. numbered ss n) (stands_on answered chain)
 
   chained_stands : (chain : ℕ) → Stands world ss os ss (chained_base world answered chain)
   chained_stands chain = λ sound.
@@ -264,7 +268,7 @@ module _ (world : List Domain) (answered : List Answered) (was : IsSound world a
         ])
 
     last_begun-now : (chain : ℕ) → last_begun (answered ++ now ∷ []) chain ≡ cond (begins_in chain now) (Some (0 + length answered)) (last_begun answered chain)
-    last_begun-now chain = last_from-push 0 (begins_in chain) answered now
+    last_begun-now chain = last_from-push 0 (begins_in chain) answered now ∙ or_else (begins_in chain now) (0 + length answered) (last_begun answered chain)
 
     pub IsSound-answer : IsSound world (answer world answered e)
     IsSound-answer =

@@ -5,7 +5,9 @@ use Rattle.std.specs.Option.{option_or}
 use Rattle.std.proofs.lemmas.Bool.{le-ltb, lt-ltb}
 use Rattle.std.proofs.lemmas.Option.{cond_some, none-some, same_Some, slice_get_cases}
 use Rattle.sal_rows.specs.declared.outcome.Outcome.{Outcome}
-use Rattle.sal_history.specs.Submissions.{Sent, done, failing_from, if_done, is_done, is_in, last_from, pending_receipt}
+use Rattle.sal_history.specs.Numbered.{numbered}
+use Rattle.sal_history.specs.Submissions.{Sent, done, failing_from, if_done, is_done, is_in, last_from, last_receipt, pending_receipt}
+use Rattle.sal_history.proofs.Numbered.{numbered-low}
 
 -- the last submission of the chain that is not decided
 abbrev pub waiting : Option ℕ → List Sent → List Outcome → Option Sent
@@ -153,5 +155,14 @@ waits_from n bound chain (s ∷ ss) (o ∷ os) e =
     ] refl (waits_from (n + 1) bound chain ss os (omega (arith, e)))
 
 -- the submission of a chain's pending receipt
-pub pending_waits : (chain : Option ℕ) (ss : List Sent) (os : List Outcome) → option_and_then (λ n. slice_get ss (n - 1)) (pending_receipt ss os chain) ≡ waiting chain ss os
-pending_waits chain ss os = waits_from 1 (length os) chain ss os (omega arith)
+pub pending_waits : (chain : Option ℕ) (ss : List Sent) (os : List Outcome) → option_and_then (λ n. numbered ss n) (pending_receipt ss os chain) ≡ waiting chain ss os
+pending_waits chain ss os = by_number (last_receipt ss chain) refl ∙ waits_from 1 (length os) chain ss os (omega arith)
+  where
+    by_number : (o : Option ℕ) → last_receipt ss chain ≡ o
+        → option_and_then (λ n. numbered ss n) (option_and_then (λ n. if nat_lt (length os) n then Some n else None) o) ≡ found 1 (length os) ss o
+    by_number None e = refl
+    by_number (Some k) e =
+        elim (nat_lt (length os) k) as (λ b. option_and_then (λ n. numbered ss n) (cond b (Some k) None) ≡ option_and_then (λ n. slice_get ss (n - 1)) (cond b (Some k) None)) [
+          | true ↦ numbered-low ss k (omega (arith, (last_within 1 (is_in chain) ss k e).0))
+          | false ↦ refl
+        ]

@@ -1,5 +1,5 @@
--- What the chains of a log keep: what a submission saw of its chain is what its own commits left, none conflicts with a
--- commit of its own, and commits stand in the order of receipts.
+-- Laws of the chains of a log: what a submission saw of its chain is what the chain's commits wrote, none conflicts with a
+-- commit of its own chain, and commits have the order of receipts.
 use Rattle.std.specs.Prelude.{◌≡◌, ℕ, false, ◌<◌, List, length, take, Some, None, slice_get}
 use Rattle.sal_types.specs.declared.value.Store.{Store}
 use Rattle.sal_types.specs.declared.value.Step.{Step}
@@ -13,7 +13,7 @@ use Rattle.sal_history.specs.History.{history, outcomes, sents}
 use Rattle.sal_history.specs.Laws.{IsBase}
 
 -- A receipt of a chain that had not failed when it was decided: its base trees are those at its base commit with the later
--- commits of the chain on top, also where it began before they were commits.
+-- commits of the chain applied, also if it began before they were commits.
 abbrev pub OwnCommitsAreOnTop : Type 0
 OwnCommitsAreOnTop =
     (world : List Domain) (log : List Entry) (i : ℕ) (s : Sent) (chain : ℕ)
@@ -31,7 +31,7 @@ NoConflictInAChain =
     → t.base.domain ≡ s.base.domain
     → is_of_chain s.base.chain t.base.chain ≡ false
 
--- Two receipts of one domain that were done are commits in the order of the receipts, those of one chain as all others.
+-- Two receipts of one domain that were done are commits in the order of the receipts, in one chain or not.
 abbrev pub CommitsStandInOrder : Type 0
 CommitsStandInOrder =
     (world : List Domain) (log : List Entry) (i j : ℕ) (s t : Sent) (a b : ℕ)

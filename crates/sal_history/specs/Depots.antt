@@ -1,4 +1,4 @@
--- Worked examples over a depot, which is a presence container with a name and a list of items, and over what was seen.
+-- Worked examples over a depot, which is a presence container with a name and a list of items, and a list of seen entries.
 use Rattle.std.specs.Prelude.{ℕ, true, false, List, [], ◌∷◌, ◌++◌, Some, None}
 use Rattle.sal_types.specs.declared.value.Step.{Step}
 use Rattle.sal_types.specs.declared.value.Step.TheVariants.{Node, Key, Item}
@@ -10,8 +10,8 @@ use Rattle.sal_rules.specs.Examples.{info, node, table, number, mark, held}
 use Rattle.sal_history.specs.World.{Domain}
 pub use Rattle.sal_rows.specs.Examples.{depot, name}
 
--- The depot (0) with its name (1) and its items (2), each with an id (3), a code (4) that no other has, and a note (5);
--- and a `config false` container (6) with at most two entries seen (7).
+-- The depot (0) with its name (1) and its items (2), each with an id (3), a code (4) that is unique, and a note (5);
+-- and a `config false` container (6) with at most two entries `seen` (7).
 abbrev pub depots : SchemaTable
 depots = table (
     node None (Container true)
@@ -48,7 +48,7 @@ plain_item id = mark (item id) ∷ held (item id ++ Node 3 ∷ []) id ∷ []
 abbrev pub coded_item : ℕ → ℕ → List Row
 coded_item id number = mark (item id) ∷ held (item id ++ Node 3 ∷ []) id ∷ held (code id) number ∷ []
 
--- what was seen
+-- the entries `seen`
 abbrev pub seen : List Step
 seen = Node 6 ∷ Node 7 ∷ []
 

@@ -25,7 +25,7 @@ pub use Rattle.sal_rows.specs.Examples.{leaf}
 
 -- ---- boxes
 
--- a container box with the leafs a and b; the rules look at no types, so the nodes of the tables have none
+-- a container box with the leafs a and b; the rules do not use types, so the nodes of the tables have none
 abbrev pub boxes : SchemaTable
 boxes = table (node None (Container false) ∷ node (Some 0) Scalar ∷ node (Some 0) Scalar ∷ [])
 
@@ -81,7 +81,7 @@ oper op = record { store = Oper; path = op.path; act = op.act }
 
 -- ---- calls
 
--- calls of one client after another, each with its client; the numbers of entries tell nothing here
+-- calls of one client after another, each with its client; the numbers of entries do not matter here
 abbrev pub by : ℕ → Call → Entry
 by client call = record { client = client; number = 0; call = call }
 

@@ -1,5 +1,5 @@
--- What the log of shared calls means: each entry's answer, the receipts, their outcomes, the commits and the trees.
--- The log is all that there is; every definition here looks at entries alone.
+-- The meaning of the log of shared calls: each entry's reply, the receipts, their outcomes, the commits and the trees.
+-- There is no other state; every definition here is a function of the entries.
 use Rattle.std.specs.Prelude.{ℕ, Bool, false, not, zero, suc, ◌+◌, ◌-◌, List, [], ◌∷◌, ◌++◌, length, Option, Some, None, if◌then◌else◌, nat_eq, nat_le, nat_lt, slice_get, unwrap_or, option_and_then, count_by}
 use Rattle.std.specs.List.{fold, filter_map, flat_map, list_any}
 use Rattle.std.specs.Option.{option_map, option_map_or, option_or}
@@ -24,6 +24,7 @@ use Rattle.sal_history.specs.declared.reply.Reply.{Reply}
 use Rattle.sal_history.specs.declared.reply.Reply.TheVariants.{Begun, Chain, Accepted, Receipt, Settled, Decided, Nothing, Listener, Batch, Found, Late, Refused}
 pub use Rattle.sal_history.specs.Answered.{Answered}
 use Rattle.sal_history.specs.Listeners.{Listening, has_listener, listener_at, listeners, live_listeners, version}
+use Rattle.sal_history.specs.Numbered.{numbered}
 use Rattle.sal_history.specs.Outcome.{decide}
 use Rattle.sal_rpc.specs.declared.call.RpcCall.TheVariants as rpcs
 use Rattle.sal_note.specs.declared.call.NoteCall.TheVariants as notes
@@ -44,26 +45,26 @@ outcomes answered = flat_map (λ a. a.decided) answered
 abbrev pub commits : List Answered → ℕ → List (List Op)
 commits answered domain = done_ops domain (sents answered) (outcomes answered)
 
--- domain 0 is always live, that of a device from its mount to its unmount
+-- domain 0 is always live, a device's domain from its mount to its unmount
 abbrev pub is_live : List Domain → List Answered → ℕ → Bool
 is_live world answered domain = is_live_among (length world) answered domain
 
 -- ---- transactions
 
--- the transaction that the entry at the place began
+-- the transaction that the entry at the index began
 abbrev pub began_at : List Answered → ℕ → Option Base
 began_at answered place = option_and_then (λ a. a.began) (slice_get answered place)
 
--- no trees at commit 0 of domain 0, for a place at which no transaction began; no caller has one
+-- no trees at commit 0 of domain 0, for an index at which no transaction began; no caller uses one
 abbrev pub nowhere : Base
 nowhere = record { domain = 0; commit = 0; chain = None; trees = λ s. [] }
 
--- what a call with this answer submitted
+-- the submission of a call with this reply
 abbrev pub sent_by : List Answered → Call → Reply → Option Sent
 sent_by answered (Submit place ops) (Receipt n) = Some (record { base = unwrap_or (began_at answered place) nowhere; ops = ops })
 sent_by answered call reply = None
 
--- a call with this answer submitted or cancelled the transaction that began at the place
+-- a call with this reply submitted or cancelled the transaction that began at the index
 abbrev pub spends : Call → Reply → ℕ → Bool
 spends (Submit at ops) (Receipt n) place = nat_eq at place
 spends (Cancel at) reply place = nat_eq at place
@@ -75,7 +76,7 @@ is_spent answered place = list_any (λ a. spends a.entry.call a.reply place) ans
 
 -- ---- chains, by their ids from 1 on
 
--- the domain of the chain that a call with this answer opened
+-- the domain of the chain that a call with this reply opened
 abbrev pub opened_chain : Call → Reply → Option ℕ
 opened_chain (OpenChain domain) (Chain id) = Some domain
 opened_chain call reply = None
@@ -84,11 +85,11 @@ opened_chain call reply = None
 abbrev pub chain_domains : List Answered → List ℕ
 chain_domains answered = filter_map (λ a. opened_chain a.entry.call a.reply) answered
 
--- the domain of a chain; no caller has one that was not opened
+-- the domain of a chain; no caller uses one that was not opened
 abbrev pub domain_of : List Answered → ℕ → ℕ
-domain_of answered chain = unwrap_or (slice_get (chain_domains answered) (chain - 1)) 0
+domain_of answered chain = unwrap_or (numbered (chain_domains answered) chain) 0
 
--- a call with this answer closed the chain
+-- a call with this reply closed the chain
 abbrev pub closes : Call → Reply → ℕ → Bool
 closes (CloseChain id) Accepted chain = nat_eq id chain
 closes call reply chain = false
@@ -100,7 +101,7 @@ is_closed answered chain = list_any (λ a. closes a.entry.call a.reply chain) an
 abbrev pub begins_in : ℕ → Answered → Bool
 begins_in chain a = option_map_or (λ b. is_of_chain (Some chain) b.chain) a.began false
 
--- the place of the entry that began the chain's last transaction
+-- the index of the entry that began the chain's last transaction
 abbrev pub last_begun : List Answered → ℕ → Option ℕ
 last_begun answered chain = last_from 0 (begins_in chain) answered
 
@@ -112,14 +113,14 @@ has_open answered chain = option_map_or (λ place. not (is_spent answered place)
 abbrev pub failed_by : List Answered → ℕ → Option ℕ
 failed_by answered chain = failing (Some chain) (sents answered) (outcomes answered)
 
--- the pending receipt on which the chain's next transaction stands
+-- the pending receipt that the chain's next transaction follows
 abbrev pub stands_on : List Answered → ℕ → Option ℕ
 stands_on answered chain = pending_receipt (sents answered) (outcomes answered) (Some chain)
 
 abbrev pub fault_if : Bool → CallFault → Option CallFault
 fault_if test fault = if test then Some fault else None
 
--- Why the chain begins no transaction: it is closed, it has failed (`onTransactionChainFailed` of the MD-SAL developer
+-- Why no transaction begins in the chain: it is closed, it has failed (`onTransactionChainFailed` of the MD-SAL developer
 -- guide), its last transaction is open, or its domain is not live.
 abbrev pub chain_refusal : List Domain → List Answered → ℕ → Option CallFault
 chain_refusal world answered chain =
@@ -128,7 +129,7 @@ chain_refusal world answered chain =
     (option_or (fault_if (has_open answered chain) PreviousOpen)
     (fault_if (not (is_live world answered (domain_of answered chain))) (NoDomain (domain_of answered chain)))))
 
--- a refusal, or the good answer
+-- a refusal, or else the good reply
 abbrev pub refused_or : Option CallFault → Reply → Reply
 refused_or None good = good
 refused_or (Some fault) good = Refused fault
@@ -139,7 +140,7 @@ abbrev pub marks : Call → ℕ → Bool
 marks (Mark m) mark = nat_eq m mark
 marks call mark = false
 
--- the mark was left
+-- the mark was set
 abbrev pub is_marked : List Answered → ℕ → Bool
 is_marked answered mark = list_any (λ a. marks a.entry.call mark) answered
 
@@ -152,29 +153,29 @@ listen_refusal world answered domain =
 
 -- ---- domains that are unmounted
 
--- the outcome that names the domain, where it is not live
+-- the outcome with the domain, if it is not live
 abbrev pub unmounted_of : Bool → ℕ → Option Outcome
 unmounted_of live domain = if live then None else Some (Unmounted domain)
 
--- ---- answers
+-- ---- replies
 
 -- how many receipts are pending
 abbrev pub pending : List Answered → ℕ
 pending answered = length (sents answered) - length (outcomes answered)
 
--- the answer to a submit: refused where 4,096 receipts are pending, or where the transaction is spent
+-- the reply to a submit: refused if 4,096 receipts are pending, or if the transaction is spent
 abbrev pub submitted : List Answered → ℕ → Reply
 submitted answered place =
     if nat_lt (pending answered) 4096
     then (if is_spent answered place then Refused TxSpent else Receipt (length (sents answered) + 1))
     else Refused PipelineFull
 
--- the answer to a settle, from the submission and the outcome of its receipt; no caller has a receipt without them
+-- the reply to a settle, from the submission and the outcome of its receipt; no caller has a receipt without them
 abbrev pub settled : Option Sent → Option Outcome → Reply
 settled (Some s) (Some o) = Settled s.base.domain o
 settled s o = Receipt 0
 
--- the answer to a pump, from the receipt that is next, its submission, and what was decided
+-- the reply to a pump, from the next receipt, its submission, and its outcome
 abbrev pub pumped : ℕ → Option Sent → List Outcome → Reply
 pumped receipt (Some s) (o ∷ os) = Decided receipt s.base.domain o
 pumped receipt s os = Nothing
@@ -188,34 +189,34 @@ module _ (world : List Domain) where
   abbrev pub trees_at : List Answered → ℕ → Store → ℕ → List Row
   trees_at answered domain s k = tree_at (opening_of world domain) (commits answered domain) s k
 
-  -- the answer to a listen: the next listener, at the newest commit
+  -- the reply to a listen: the next listener, at the newest commit
   abbrev pub listening : List Answered → ℕ → Store → List Step → Reply
   listening answered domain s path =
       Listener (length (listeners answered) + 1) domain path (opened (trees_at answered domain s) path (length (commits answered domain)))
 
-  -- the answer to a take of the listener: what the commits after its version changed, up to the newest one. Whether its path has a
-  -- row of its own is told by the last version of the schema, so that no upgrade changes it.
+  -- the reply to a take of the listener: the changes of the commits after its version, up to the newest one. The last version of the
+  -- schema says whether its path has its own row, so no upgrade changes that.
   abbrev pub batch_of : List Answered → ℕ → Listening → Reply
   batch_of answered id l =
       Batch l.domain (batch (has_own_row (last_of world l.domain) l.path) (trees_at answered l.domain l.store) l.path (version answered id) (length (commits answered l.domain)))
 
-  -- a client is answered about its own live listeners alone
+  -- a client may use only its own live listeners
   abbrev pub if_listens : List Answered → ℕ → ℕ → Reply → Reply
   if_listens answered client id good = if has_listener answered client id then good else Refused (NoListener id)
 
   abbrev pub taken : List Answered → ℕ → Reply
   taken answered id = option_map_or (batch_of answered id) (listener_at answered id) (Refused (NoListener id))
 
-  -- The outcome of a submission, decided after these outcomes by these tables, while these domains are live. Where a smaller receipt of its chain
-  -- was not done, that one is named; else where its domain is not live any more, that domain. Else it is decided by the rules
-  -- of its domain over the commits of this; those after its base that are not of its chain are foreign.
+  -- The outcome of a submission, decided after these outcomes by these tables, with these live domains. If a smaller receipt of its chain
+  -- was not done, that one is named; else if its domain is not live, that domain. Otherwise it is decided by the version rules
+  -- of its domain, over the domain's commits; those after its base that are not of its chain are foreign.
   abbrev pub outcome : (ℕ → SchemaTable) → (ℕ → Bool) → List Sent → List Outcome → Sent → Outcome
   outcome tables live ss os s =
       unwrap_or (option_or (option_map FailedBy (failing s.base.chain ss os)) (unmounted_of (live s.base.domain) s.base.domain))
       (decide (tables s.base.domain) (opening_of world s.base.domain) (done_ops s.base.domain ss os) (rules_of world s.base.domain) s.base.trees
       (spans s.base.commit s.base.chain (done_chains s.base.domain ss os)) s.ops)
 
-  -- the outcome of the front of what is pending, after these outcomes
+  -- the outcome of the first pending submission, after these outcomes
   abbrev pub decide_front : (ℕ → SchemaTable) → (ℕ → Bool) → List Sent → List Outcome → Option Sent → List Outcome
   decide_front tables live ss os None = []
   decide_front tables live ss os (Some s) = outcome tables live ss os s ∷ []
@@ -226,8 +227,8 @@ module _ (world : List Domain) where
   decide_next tables live ss os (suc n) =
       decide_front tables live ss os (slice_get ss (length os)) ++ decide_next tables live ss (os ++ decide_front tables live ss os (slice_get ss (length os))) n
 
-  -- the outcomes that a call decides, all by the present version: a settle those of the receipts up to its own that are pending, a
-  -- pump that of the first that is
+  -- the outcomes that a call decides, all by the present version: a settle those of the pending receipts up to its own, a
+  -- pump that of the first pending one
   abbrev pub decided_by : List Answered → Call → List Outcome
   decided_by answered (Settle receipt) = decide_next (tables_now world answered) (is_live world answered) (sents answered) (outcomes answered) (receipt - length (outcomes answered))
   decided_by answered Pump = decide_next (tables_now world answered) (is_live world answered) (sents answered) (outcomes answered) 1
@@ -237,22 +238,22 @@ module _ (world : List Domain) where
   abbrev pub newest_base : List Answered → ℕ → Option ℕ → Base
   newest_base answered domain chain = record { domain = domain; commit = length (commits answered domain); chain = chain; trees = trees_of answered domain }
 
-  -- a base on a pending submission: the same base commit, and the trees that the submission leaves
+  -- a base that follows a pending submission: the same base commit, and the trees after the submission
   abbrev pub base_on : List Answered → ℕ → Option Sent → Base
   base_on answered chain None = newest_base answered (domain_of answered chain) (Some chain)
   base_on answered chain (Some s) = record { domain = s.base.domain; commit = s.base.commit; chain = Some chain; trees = view_of s }
 
-  -- the base of the next transaction of a chain: on its last submission while that is pending, and else at the newest commit
+  -- the base of the next transaction of a chain: it follows the chain's last submission while that is pending, else it is at the newest commit
   abbrev pub chained_base : List Answered → ℕ → Base
-  chained_base answered chain = base_on answered chain (option_and_then (λ n. slice_get (sents answered) (n - 1)) (stands_on answered chain))
+  chained_base answered chain = base_on answered chain (option_and_then (λ n. numbered (sents answered) n) (stands_on answered chain))
 
-  -- the transaction that a call with this answer began
+  -- the transaction that a call with this reply began
   abbrev pub began_by : List Answered → Call → Reply → Option Base
   began_by answered (Begin domain mode) (Begun commit on) = Some (newest_base answered domain None)
   began_by answered (ChainBegin chain mode) (Begun commit on) = Some (chained_base answered chain)
   began_by answered call reply = None
 
-  -- Why an upgrade to the version is refused: it is not the next one, or a newest tree of domain 0 would break a rule by it.
+  -- Why an upgrade to the version is refused: it is not the next one, or a newest tree of domain 0 would break a rule of it.
   abbrev pub upgrade_refusal : List Answered → ℕ → Option CallFault
   upgrade_refusal answered version =
       option_or (fault_if (not (nat_eq (schema_version answered + 1) version)) (WrongVersion (schema_version answered)))
@@ -266,7 +267,7 @@ module _ (world : List Domain) where
   reply_to answered client (CloseChain chain) = refused_or (fault_if (is_closed answered chain) ChainClosed) Accepted
   reply_to answered client (Submit place ops) = submitted answered place
   reply_to answered client (Cancel place) = Accepted
-  reply_to answered client (Settle receipt) = settled (slice_get (sents answered) (receipt - 1)) (slice_get (outcomes answered ++ decided_by answered (Settle receipt)) (receipt - 1))
+  reply_to answered client (Settle receipt) = settled (numbered (sents answered) receipt) (numbered (outcomes answered ++ decided_by answered (Settle receipt)) receipt)
   reply_to answered client Pump = pumped (length (outcomes answered) + 1) (slice_get (sents answered) (length (outcomes answered))) (decided_by answered Pump)
   reply_to answered client (Listen domain s path) = refused_or (listen_refusal world answered domain) (listening answered domain s path)
   reply_to answered client (Take id) = if_listens answered client id (taken answered id)
@@ -287,16 +288,16 @@ module _ (world : List Domain) where
   reply_to answered client (After mark) = if is_marked answered mark then Found else Late
   reply_to answered client (Upgrade version) = refused_or (upgrade_refusal answered version) Accepted
 
-  -- an entry after these, with its answer
+  -- an entry after these, with its results
   abbrev pub answered_as : List Answered → Entry → Reply → Answered
   answered_as answered e reply =
       record { entry = e; reply = reply; began = began_by answered e.call reply; sent = sent_by answered e.call reply; decided = decided_by answered e.call }
 
-  -- one more entry, answered
+  -- one more entry, with its results
   abbrev pub answer : List Answered → Entry → List Answered
   answer answered e = answered ++ answered_as answered e (reply_to answered e.client e.call) ∷ []
 
-  -- the entries of a log, each with its answer
+  -- the entries of a log, each with its results
   abbrev pub history : List Entry → List Answered
   history log = fold answer [] log
 
@@ -308,11 +309,11 @@ module _ (world : List Domain) where
   abbrev pub newest_tree : List Entry → ℕ → Store → List Row
   newest_tree log domain s = trees_of (history log) domain s
 
-  -- what the transaction that began at the place of the log sees of a store before its own writes
+  -- the tree of a store that the transaction that began at the index of the log sees before its own writes
   abbrev pub base_tree : List Entry → ℕ → Store → List Row
   base_tree log place s = (unwrap_or (began_at (history log) place) nowhere).trees s
 
-  -- and under its own writes
+  -- and after its own writes
   abbrev pub view : List Entry → ℕ → List Op → Store → List Row
   view log place ops s = apply_ops (base_tree log place s) s ops
 

@@ -7,6 +7,8 @@ pub mod History
 pub mod Laws
 pub mod Listeners
 pub mod Listening
+pub mod MountCalls
+pub mod Numbered
 pub mod Outcome
 pub mod ServiceExamples
 pub mod ServiceLaws

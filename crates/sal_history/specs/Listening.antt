@@ -20,7 +20,7 @@ use Rattle.sal_history.specs.Examples.{a, box, begin, by, replies}
 abbrev pub listen : List Step → Call
 listen path = Listen 0 Config path
 
--- client 1 makes a commit of the operations, with three entries from the place on, as the receipt
+-- client 1 makes a commit of the operations, with three entries from the index on, as the receipt
 abbrev pub commit : ℕ → ℕ → List Op → List Entry
 commit place receipt ops = by 1 begin ∷ by 1 (Submit place ops) ∷ by 1 (Settle receipt) ∷ []
 
@@ -28,7 +28,7 @@ commit place receipt ops = by 1 begin ∷ by 1 (Submit place ops) ∷ by 1 (Sett
 abbrev pub watched : List Step → List Op → List Op → List Op → List Entry
 watched path first second third = by 0 (listen path) ∷ (commit 1 1 first ++ commit 4 2 second ++ commit 7 3 third ++ by 0 (Take 1) ∷ [])
 
--- one commit stands before the listener, and two behind it; it takes after each
+-- one commit before the listener's opening, and two after it; the client takes a batch after each
 abbrev pub between : Op → Op → Op → List Entry
 between first second third = commit 0 1 (first ∷ []) ++ by 0 (listen a) ∷ (commit 4 2 (second ∷ []) ++ by 0 (Take 1) ∷ (commit 8 3 (third ∷ []) ++ by 0 (Take 1) ∷ []))
 

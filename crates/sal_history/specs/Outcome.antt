@@ -1,5 +1,5 @@
--- How a submission is decided at its domain's newest commit: the first that applies of a conflict by the domain's version rules, a breach of the
--- configuration, a breach of the operational tree, and done. The steps are those of canCommit, preCommit and commit of
+-- How a submission is decided at its domain's newest commit: the first that applies of a conflict by the domain's version rules, a breach in the
+-- configuration, a breach in the operational tree, and done. The steps are those of canCommit, preCommit and commit of
 -- the MD-SAL developer guide's three-phase commit.
 use Rattle.std.specs.Prelude.{◌+◌, List, length, take, Option, slice_get, unwrap_or, option_and_then}
 use Rattle.std.specs.Option.{option_or, option_map}
@@ -17,13 +17,13 @@ use Rattle.sal_rows.specs.declared.clash.Clash.{Clash}
 use Rattle.sal_rows.specs.declared.clash.Rules.{Rules}
 use Rattle.sal_rows.specs.Clash.{clash, path_by, tip}
 
--- a clash of the operation, named by its store and its place
+-- a conflict of the operation, with its store and its place
 abbrev pub conflict_of : Clash → Op → Outcome
 conflict_of c op = Conflict op.store (take c.depth (path_by op c.row)) c.kind c.commit
 
 -- the domain's schema, its opening trees and the commits so far
 module _ (table : SchemaTable) (opening : Store → List Row) (commits : List (List Op)) where
-  -- the first clash of the operations with the foreign commits, which lie in the spans
+  -- the first conflict of the operations with the foreign commits in the spans
   abbrev pub conflict : Rules → (Store → List Row) → List Span → List Op → Option Outcome
   conflict rules base spans ops = option_and_then (λ c. option_map (conflict_of c) (slice_get ops c.op)) (clash opening commits rules base spans ops)
 

@@ -11,19 +11,19 @@ use Rattle.sal_history.specs.World.{Domain}
 
 -- ---- requests and notifications
 
--- rows that are handed on, and others
+-- rows that are passed on, and others
 abbrev pub one : List Row
 one = leaf a "1" ∷ []
 
 abbrev pub two : List Row
 two = leaf b "2" ∷ []
 
--- the same entry so many times, before others
+-- the same entry n times, before others
 abbrev pub times : ℕ → Entry → List Entry → List Entry
 times zero e rest = rest
 times (suc n) e rest = e ∷ times n e rest
 
--- 64 notifications wait for client 1 and one for client 2 when another one is offered; then client 2 takes what it has
+-- 64 notifications wait for client 1 and one for client 2 when another one is offered; then client 2 takes those for it
 abbrev pub filled : List Entry
 filled = by 1 (Subscribe 5) ∷ times 63 (by 0 (Offer 5 one)) (by 2 (Subscribe 5) ∷ by 0 (Offer 5 one) ∷ by 0 (Offer 5 two) ∷ by 2 TakeNotes ∷ [])
 

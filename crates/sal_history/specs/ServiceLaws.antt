@@ -1,4 +1,4 @@
--- What services keep over a whole log: to whom a request is handed out, what is collected, and what a subscriber takes.
+-- Laws of services for a whole log: to which client a request is handed out, which answer is collected, and what a subscriber takes.
 use Rattle.std.specs.Prelude.{◌≡◌, ◌⊎◌, ℕ, ◌<◌, List, [], ◌++◌, take, Some, if◌then◌else◌, nat_eq, slice_get}
 use Rattle.std.specs.List.{flat_map}
 use Rattle.sal_types.specs.declared.row.Row.{Row}
@@ -18,8 +18,8 @@ use Rattle.sal_history.specs.History.{Answered, history}
 
 -- ---- requests
 
--- A request that an entry is handed was made by an entry before it, of this RPC and context and with this input. It is handed to
--- the client whose registration that entry found, for just this context or else without one.
+-- A request that an entry hands out was made by an entry before it, with this RPC, this context and this input. It is handed to
+-- the client whose registration that entry found, for this exact context or else without one.
 abbrev pub HandedToItsProvider : Type 0
 HandedToItsProvider =
     (world : List Domain) (log : List Entry) (i : ℕ) (a : Answered) (r : Request)
@@ -27,7 +27,7 @@ HandedToItsProvider =
     → (j : ℕ) × (b : Answered) × (j < i) × (slice_get (history world log) j ≡ Some b) × (b.entry.call ≡ Invoke r.rpc r.context r.input) × (b.reply ≡ said.CallMade r.id)
     × (owner_of (routed (take j (history world log))) r.rpc r.context ≡ Some a.entry.client)
 
--- Two entries that are handed the request of one id are one entry.
+-- Two entries that hand out the request of one id are one entry.
 abbrev pub HandedOnceInALog : Type 0
 HandedOnceInALog =
     (world : List Domain) (log : List Entry) (i j : ℕ) (a b : Answered) (r q : Request)
@@ -37,14 +37,14 @@ HandedOnceInALog =
 
 -- ---- answers
 
--- The rows that are collected for a request are those of an entry before, which answered it and was accepted.
+-- The rows that are collected for a request are those of an earlier accepted answer to it.
 abbrev pub CollectedAsGiven : Type 0
 CollectedAsGiven =
     (world : List Domain) (log : List Entry) (i id : ℕ) (a : Answered) (rpc : ℕ) (rows : List Row)
     → slice_get (history world log) i ≡ Some a → a.entry.call ≡ Collect id → a.reply ≡ said.Output rpc rows
     → (j : ℕ) × (b : Answered) × (j < i) × (slice_get (history world log) j ≡ Some b) × (b.entry.call ≡ Answer id rows) × (b.reply ≡ said.Accepted)
 
--- Behind such an entry each collection of the request has its rows, but for those of clients that did not make the request.
+-- After such an answer each collection of the request returns its rows, except to clients that did not make the request.
 abbrev pub AnswersAreCollected : Type 0
 AnswersAreCollected =
     (world : List Domain) (log : List Entry) (i j id : ℕ) (a b : Answered) (rows : List Row)
@@ -54,20 +54,20 @@ AnswersAreCollected =
 
 -- ---- notifications
 
--- what a call is given, where it takes notifications
+-- the notifications that a call takes
 abbrev pub given : Call → Reply → List Note
 given TakeNotes (said.Notes list) = list
 given call reply = []
 
--- what the client took
+-- the notifications that the client took
 abbrev pub taken_by : ℕ → Answered → List Note
 taken_by client a = if nat_eq a.entry.client client then given a.entry.call a.reply else []
 
--- what was offered and not refused while the client was subscribed, in order
+-- the notifications that were offered and not refused while the client was subscribed, in order
 abbrev pub offered_to : ℕ → List Answered → List Note
 offered_to client answered = flat_map (λ m. queues.brings client m.call m.reply m.subscribed) (noted answered)
 
--- What a client took, and behind it what waits for it, is what was offered while it was subscribed: each once, and in order.
+-- The notifications that a client took, then those that wait for it, are those that were offered while it was subscribed: each once, and in order.
 abbrev pub TakenOnceInOrder : Type 0
 TakenOnceInOrder =
     (world : List Domain) (log : List Entry) (client : ℕ)

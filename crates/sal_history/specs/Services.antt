@@ -1,5 +1,5 @@
--- The calls on the services of a broker that a log has, each service by its own: RPCs, notifications and mounts. What they mean
--- stands with each service; here are their calls among the shared ones, and their answers as answers to those.
+-- The calls on services in a log: RPCs, notifications and mounts. The crate of each service defines their meaning;
+-- here are their calls among the shared ones, and their answers as replies to those.
 use Rattle.std.specs.Prelude.{ℕ, Bool, List, Option, Some, None}
 use Rattle.std.specs.List.{filter_map}
 use Rattle.std.specs.Option.{option_map}
@@ -34,7 +34,7 @@ use Rattle.sal_history.specs.Answered.{Answered}
 
 -- ---- RPCs
 
--- the call on the router, where the shared call is one
+-- the call on the router, if the shared call is one
 abbrev pub rpc_call : Call → Option RpcCall
 rpc_call (Provide rpc context) = Some (rpcs.Provide rpc context)
 rpc_call (Withdraw rpc context) = Some (rpcs.Withdraw rpc context)
@@ -55,7 +55,7 @@ rpc_calls answered = filter_map (λ a. rpc_asked a.entry.client a.entry.call) an
 abbrev pub routed : List Answered → List routing.Made
 routed answered = routing.made_of (rpc_calls answered)
 
--- the RPC of the request with this id; no caller has a request that was not made
+-- the RPC of the request with this id; no caller uses a request that was not made
 abbrev pub rpc_of : List Answered → ℕ → Option ℕ
 rpc_of answered id = option_map (λ r. r.rpc) (routing.request_at (routing.requests (routed answered)) id)
 
@@ -65,7 +65,7 @@ rpc_fault (rpc_faults.ProviderTaken rpc) = faults.ProviderTaken rpc
 rpc_fault (rpc_faults.NoCall id) = faults.NoCall id
 rpc_fault rpc_faults.NoMemory = faults.NoMemory
 
--- the router's answer, about a request of the RPC, as an answer to the shared call
+-- the router's answer, about a request of the RPC, as a reply to the shared call
 abbrev pub rpc_reply : ℕ → RpcReply → Reply
 rpc_reply rpc rpc_replies.Accepted = said.Accepted
 rpc_reply rpc (rpc_replies.CallMade id) = said.CallMade id
@@ -122,7 +122,7 @@ mount_call call = None
 abbrev pub mounting : List Answered → List MountCall
 mounting answered = filter_map (λ a. mount_call a.entry.call) answered
 
--- each with its answer, where there are so many domains
+-- each with its answer, for this number of domains
 abbrev pub mounted : ℕ → List Answered → List mounts.Made
 mounted domains answered = mounts.made_of domains (mounting answered)
 
@@ -140,6 +140,6 @@ mount_reply (mount_replies.Refused fault) = said.Refused (mount_fault fault)
 abbrev pub by_mounts : ℕ → List Answered → MountCall → Reply
 by_mounts domains answered call = mount_reply (mounts.reply_to domains (mounted domains answered) call)
 
--- domain 0 is always live, that of a device from its mount to its unmount
+-- domain 0 is always live, a device's domain from its mount to its unmount
 abbrev pub is_live_among : ℕ → List Answered → ℕ → Bool
 is_live_among domains answered domain = mounts.is_live (mounted domains answered) domain

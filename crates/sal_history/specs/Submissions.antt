@@ -1,4 +1,4 @@
--- The submissions of a log by receipt, with their outcomes: which of them are commits, and what is of a chain.
+-- The submissions of a log by receipt, with their outcomes: which of them are commits, and which are of a chain.
 use Rattle.std.specs.Prelude.{ℕ, Bool, true, false, not, ◌+◌, ◌&&◌, List, [], ◌∷◌, ◌++◌, length, map, Option, Some, None, if◌then◌else◌, nat_eq, nat_lt, option_and_then}
 use Rattle.std.specs.Option.{option_or}
 use Rattle.sal_types.specs.declared.value.Store.{Store}
@@ -9,7 +9,7 @@ use Rattle.sal_rows.specs.declared.outcome.Outcome.TheVariants.{Done, Conflict, 
 use Rattle.sal_rows.specs.Apply.{apply_ops}
 use Rattle.sal_rows.specs.Spans.{is_of_chain}
 
--- what a transaction that was begun stands on: its domain, the number of its base commit, and the trees that it sees before
+-- the base of a transaction: its domain, the number of its base commit, and the trees that it sees before
 -- its own writes; and its chain
 pub record Base : Type 0 where
   pub domain : ℕ
@@ -17,12 +17,12 @@ pub record Base : Type 0 where
   pub chain : Option ℕ
   pub trees : Store → List Row
 
--- a submission: what its transaction stands on, and its operations
+-- a submission: its transaction's base, and its operations
 pub record Sent : Type 0 where
   pub base : Base
   pub ops : List Op
 
--- what a submission leaves to the next one of its chain: its base under its operations
+-- the trees that the next submission of its chain sees: its base with its operations applied
 abbrev pub view_of : Sent → Store → List Row
 view_of s store = apply_ops (s.base.trees store) store s.ops
 
@@ -33,7 +33,7 @@ is_done (Invalid store path rule) = false
 is_done (ChainFailed receipt) = false
 is_done (Unmounted domain) = false
 
--- what is of a submission with this outcome counts where it is done
+-- the value if the submission with this outcome is done
 abbrev pub if_done : {X : Type 0} → Outcome → X → List X
 if_done outcome x = if is_done outcome then x ∷ [] else []
 
@@ -53,7 +53,7 @@ done_chains domain ss os = map (λ s. s.base.chain) (done domain ss os)
 
 -- ---- chains
 
--- counted from n on, the last element at which the test gives true
+-- counted from n on, the last element that passes the test
 abbrev pub last_from : {X : Type 0} → ℕ → (X → Bool) → List X → Option ℕ
 last_from n test [] = None
 last_from n test (x ∷ xs) = option_or (last_from (n + 1) test xs) (if test x then Some n else None)
@@ -65,11 +65,11 @@ is_in chain s = is_of_chain chain s.base.chain
 abbrev pub last_receipt : List Sent → Option ℕ → Option ℕ
 last_receipt ss chain = last_from 1 (is_in chain) ss
 
--- and where it is pending, which is to say not decided
+-- and if it is pending, that is not decided
 abbrev pub pending_receipt : List Sent → List Outcome → Option ℕ → Option ℕ
 pending_receipt ss os chain = option_and_then (λ n. if nat_lt (length os) n then Some n else None) (last_receipt ss chain)
 
--- counted from n on, the first receipt of the chain that was decided as something else than done
+-- counted from n on, the first receipt of the chain with an outcome other than done
 abbrev pub failing_from : ℕ → Option ℕ → List Sent → List Outcome → Option ℕ
 failing_from n chain [] os = None
 failing_from n chain (s ∷ ss) [] = None

@@ -1,4 +1,4 @@
--- What versions of domain 0's schema keep over a whole log.
+-- Laws of the versions of domain 0's schema for a whole log.
 use Rattle.std.specs.Prelude.{◌≡◌, ℕ, suc, ◌+◌, List, None, Some, slice_get}
 use Rattle.sal_types.specs.declared.value.Store.{Store}
 use Rattle.sal_rules.specs.Breaches.{breach}
@@ -15,13 +15,13 @@ abbrev pub OpeningsKeepTheRules : List Domain → Type 0
 OpeningsKeepTheRules world = (domain : ℕ) (s : Store) → breach (table_of world 0 domain) s (opening_of world domain s) ≡ None
 
 -- Then, in each log, the newest trees of each domain break no rule of the present version: those of domain 0 break none of the new
--- version directly after an accepted upgrade, and none from there on.
+-- version directly after an accepted upgrade, and none later.
 abbrev pub NewestTreesKeepTheRules : Type 0
 NewestTreesKeepTheRules =
     (world : List Domain) (log : List Entry) → OneIsUpgraded world → OpeningsKeepTheRules world
     → (domain : ℕ) (s : Store) → breach (tables_now world (history world log) domain) s (newest_tree world log domain s) ≡ None
 
--- An accepted upgrade goes from the version before the one that it names to that one.
+-- An accepted upgrade to a version follows directly on the version before it.
 abbrev pub UpgradesGoOneByOne : Type 0
 UpgradesGoOneByOne =
     (world : List Domain) (log : List Entry) (i : ℕ) (a : Answered) (version : ℕ)

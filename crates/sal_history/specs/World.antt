@@ -11,7 +11,7 @@ use Rattle.sal_schema.specs.Versions.{Extends}
 use Rattle.sal_history.specs.declared.opening.Opening.{Opening}
 
 -- A domain: the table of version 0 of its schema, those of the versions after it, its opening trees, which are read by version 0, and
--- the version rules by which its submissions are decided. Domain 0 alone may have more than one version.
+-- the version rules by which its submissions are decided. Only domain 0 may have more than one version.
 pub record Domain : Type 0 where
   pub table : SchemaTable
   pub upgrades : List SchemaTable
@@ -23,7 +23,7 @@ abbrev pub tree_of_opening : Opening → Store → List Row
 tree_of_opening opening Config = opening.config
 tree_of_opening opening Oper = opening.oper
 
--- the opening trees of a domain, empty where the world has none of that number
+-- the opening trees of a domain, empty if the world has no domain of that number
 abbrev pub opening_of : List Domain → ℕ → Store → List Row
 opening_of world domain s = at (slice_get world domain)
   where
@@ -31,7 +31,7 @@ opening_of world domain s = at (slice_get world domain)
     at None = []
     at (Some d) = tree_of_opening d.opening s
 
--- the version rules of a domain, 1 where the world has none of that number
+-- the version rules of a domain, 1 if the world has no domain of that number
 abbrev pub rules_of : List Domain → ℕ → Rules
 rules_of world domain = at (slice_get world domain)
   where
@@ -45,17 +45,17 @@ no_table = record { nodes = []; types = []; modules = []; identities = [] }
 
 -- ---- versions
 
--- counted from the table on, that of a version; the last one where there are fewer
+-- counted from the table on, that of a version; the last one if there are fewer
 abbrev pub version_from : SchemaTable → List SchemaTable → ℕ → SchemaTable
 version_from table [] v = table
 version_from table (next ∷ upgrades) zero = table
 version_from table (next ∷ upgrades) (suc v) = version_from next upgrades v
 
--- the table of a version of a domain's schema; where there are no upgrades it is the one table
+-- the table of a version of a domain's schema; without upgrades it is the one table
 abbrev pub version_in : Domain → ℕ → SchemaTable
 version_in d v = version_from d.table d.upgrades v
 
--- and by the domain's number, without nodes where the world has none of that number
+-- and by the domain's number, without nodes if the world has no domain of that number
 abbrev pub table_of : List Domain → ℕ → ℕ → SchemaTable
 table_of world v domain = at (slice_get world domain)
   where
@@ -76,11 +76,11 @@ abbrev pub IsChain : SchemaTable → List SchemaTable → Type 0
 IsChain older [] = Unit {0}
 IsChain older (newer ∷ upgrades) = Extends newer older × IsChain newer upgrades
 
--- domain 0 alone has more than one version
+-- only domain 0 has more than one version
 abbrev pub OneIsUpgraded : List Domain → Type 0
 OneIsUpgraded world = (number : ℕ) (d : Domain) → slice_get world (suc number) ≡ Some d → d.upgrades ≡ []
 
--- what the versions of a world's domains are
+-- the properties of the versions of a world's domains
 pub record AreVersions (world : List Domain) : Type 0 where
   pub chain : (number : ℕ) (d : Domain) → slice_get world number ≡ Some d → IsChain d.table d.upgrades
   pub only : OneIsUpgraded world

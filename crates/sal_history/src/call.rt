@@ -3,7 +3,7 @@ use crate::shared::SharedOps;
 use sal_rows::{Mode, Rows};
 use sal_types::{Path, Seq, Store};
 
-/// A shared call: what one turn of the broker is asked. Tokens are numbers.
+/// A shared call: the request of one turn at the broker. Tokens are numbers.
 #[derive(Drop)]
 pub enum Call {
     /// Begins a transaction of the domain.
@@ -20,20 +20,20 @@ pub enum Call {
         chain: u64,
         mode: Mode,
     },
-    /// Closes the chain: no transaction begins in it any more. What was begun or submitted stays.
+    /// Closes the chain: no transaction begins in it any more. Those that began or were submitted stay valid.
     CloseChain {
         chain: u64,
     },
-    /// Submits the transaction that the entry at this place of the log began, with its operations in order.
+    /// Submits the transaction that the entry at this index of the log began, with its operations in order.
     Submit {
         place: u64,
         ops: SharedOps,
     },
-    /// Gives up the transaction that the entry at this place of the log began.
+    /// Cancels the transaction that the entry at this index of the log began.
     Cancel {
         place: u64,
     },
-    /// Decides what is pending, up to and including this receipt.
+    /// Decides the pending submissions, up to and including this receipt.
     Settle {
         receipt: u64,
     },
@@ -46,7 +46,7 @@ pub enum Call {
         store: Store,
         path: Path,
     },
-    /// Takes what changed for the listener since its opening, or since what was taken last.
+    /// Takes the batch of the listener since its opening, or since its last batch.
     Take {
         id: u64,
     },
@@ -54,7 +54,7 @@ pub enum Call {
     Unlisten {
         id: u64,
     },
-    /// Registers the client as the one who answers the RPC in the context, or without one (`DOMRpcProviderService`). RPCs and
+    /// Registers the client as the provider of the RPC in the context, or without one (`DOMRpcProviderService`). RPCs and
     /// notifications are numbers of nodes of the controller's own schema, and contexts are paths of its own domain.
     Provide {
         rpc: u32,
@@ -93,7 +93,7 @@ pub enum Call {
     },
     /// Takes all notifications that wait for the client.
     TakeNotes,
-    /// Mounts the device at the path of the controller's own domain (`DOMMountPointService`). It is the domain of the same number then.
+    /// Mounts the device at the path of the controller's own domain (`DOMMountPointService`). Its domain has the same number.
     Mount {
         path: Path,
         device: u32,
@@ -106,11 +106,11 @@ pub enum Call {
     MountAt {
         path: Path,
     },
-    /// Leaves a mark in the log, by which clients can tell each other how far they are.
+    /// Sets a mark in the log, by which clients can signal each other.
     Mark {
         mark: u32,
     },
-    /// Asks whether the mark was left.
+    /// Asks whether the mark was set.
     After {
         mark: u32,
     },
@@ -128,5 +128,5 @@ pub struct Entry {
     pub call: Call,
 }
 
-/// The log: the shared calls in the order in which they were made. An entry's place is its index.
+/// The log: the shared calls in the order in which they were made.
 pub type Log = Seq<Entry>;

@@ -1,4 +1,4 @@
-//! Worked examples of the log's meaning. Each function does nothing; its contract says what the definitions give for
+//! Worked examples of the log's meaning. Each function does nothing; its contract states what the definitions give for
 //! one log, and the proof computes it.
 #![tactic(auto, unfolding(sal_schema::specs::Table::closest, sal_rules::specs::Breaches::first, sal_rules::specs::Contexts::through_plain, sal_rules::specs::Contexts::from_list, sal_rules::specs::Rules::is_there))]
 
@@ -30,13 +30,13 @@ pub fn own_writes_and_an_older_snapshot()
     ensures later { base_tree (opened []) (by 0 snapshot ∷ by 0 begin ∷ by 0 (Submit 1 (put a "x" ∷ [])) ∷ by 0 (Settle 1) ∷ by 0 snapshot ∷ []) 4 Config ≡ leaf a "x" ∷ [] }
 {}
 
-/// Two clients put the same leaf: the second is refused by the leaf and the commit that created it.
+/// Two clients put the same leaf: the second is refused, with the leaf and the commit that created it.
 pub fn same_leaf()
     ensures { replies (opened []) (crossed (put a "x") (put a "y"))
         ≡ Begun 0 None ∷ Begun 0 None ∷ Receipt 1 ∷ Settled 0 (Done 1) ∷ Receipt 2 ∷ Settled 0 (Conflict Config a Created 1) ∷ [] }
 {}
 
-/// The same where the leaf had a value: it was changed.
+/// The same for a leaf that had a value: it was changed.
 pub fn same_leaf_with_an_opening_value()
     ensures { replies (opened (leaf a "o" ∷ [])) (crossed (put a "x") (put a "y"))
         ≡ Begun 0 None ∷ Begun 0 None ∷ Receipt 1 ∷ Settled 0 (Done 1) ∷ Receipt 2 ∷ Settled 0 (Conflict Config a Changed 1) ∷ [] }
@@ -49,7 +49,7 @@ pub fn different_leafs()
     ensures tree { newest_tree (opened []) (crossed (put a "x") (put b "y")) 0 Config ≡ leaf a "x" ∷ leaf b "y" ∷ [] }
 {}
 
-/// Two merges of the same leaf do not conflict: the later one counts.
+/// Two merges of the same leaf do not conflict: the later value is the result.
 pub fn two_merges()
     ensures replies { replies (opened []) (crossed (merge a "x") (merge a "y"))
         ≡ Begun 0 None ∷ Begun 0 None ∷ Receipt 1 ∷ Settled 0 (Done 1) ∷ Receipt 2 ∷ Settled 0 (Done 2) ∷ [] }
@@ -70,7 +70,7 @@ pub fn equal_value()
         ≡ Begun 0 None ∷ Begun 0 None ∷ Receipt 1 ∷ Settled 0 (Done 1) ∷ Receipt 2 ∷ Settled 0 (Conflict Config a Changed 1) ∷ [] }
 {}
 
-/// Two transactions that each read what the other writes are both done: reads are not checked.
+/// Two transactions that each read what the other writes are both done: their reads are not checked.
 pub fn write_skew_accepted()
     ensures replies { replies (opened (leaf a "1" ∷ leaf b "1" ∷ [])) (crossed (put a "0") (put b "0"))
         ≡ Begun 0 None ∷ Begun 0 None ∷ Receipt 1 ∷ Settled 0 (Done 1) ∷ Receipt 2 ∷ Settled 0 (Done 2) ∷ [] }
@@ -78,13 +78,13 @@ pub fn write_skew_accepted()
     ensures read { base_tree (opened (leaf a "1" ∷ leaf b "1" ∷ [])) (crossed (put a "0") (put b "0")) 1 Config ≡ leaf a "1" ∷ leaf b "1" ∷ [] }
 {}
 
-/// One settle decides all that is pending before its receipt, and answers a decided receipt again.
+/// One settle decides all pending submissions before its receipt, and returns a decided outcome again.
 pub fn one_settle_for_two()
     ensures { replies (opened []) (by 0 begin ∷ by 1 begin ∷ by 0 (Submit 0 (put a "x" ∷ [])) ∷ by 1 (Submit 1 (put a "y" ∷ [])) ∷ by 1 (Settle 2) ∷ by 0 (Settle 1) ∷ [])
         ≡ Begun 0 None ∷ Begun 0 None ∷ Receipt 1 ∷ Receipt 2 ∷ Settled 0 (Conflict Config a Created 1) ∷ Settled 0 (Done 1) ∷ [] }
 {}
 
-/// A transaction is submitted once, and not after it was cancelled; to cancel is accepted.
+/// A transaction is submitted once, and not after it was cancelled; to cancel is always accepted.
 pub fn spent()
     ensures submitted_twice { replies (opened []) (by 0 begin ∷ by 0 (Submit 0 (put a "x" ∷ [])) ∷ by 0 (Submit 0 (put a "x" ∷ [])) ∷ [])
         ≡ Begun 0 None ∷ Receipt 1 ∷ Refused TxSpent ∷ [] }
@@ -94,14 +94,14 @@ pub fn spent()
         ≡ Begun 0 None ∷ Begun 0 None ∷ Accepted ∷ Receipt 1 ∷ [] }
 {}
 
-/// Created, changed and deleted in the configuration, by what another did there.
+/// Created, changed and deleted in the configuration, by another client.
 pub fn kinds_in_the_configuration()
     ensures created { decisions (opened []) (crossed (put a "x") (put a "y")) ≡ Done 1 ∷ Conflict Config a Created 1 ∷ [] }
     ensures changed { decisions (opened (leaf a "o" ∷ [])) (crossed (merge a "x") (put a "y")) ≡ Done 1 ∷ Conflict Config a Changed 1 ∷ [] }
     ensures deleted { decisions (opened (leaf a "o" ∷ [])) (crossed (delete a) (delete a)) ≡ Done 1 ∷ Conflict Config a Deleted 1 ∷ [] }
 {}
 
-/// The same in the operational store; what was done in the other store does not count.
+/// The same in the operational store; touches in the other store do not matter.
 pub fn kinds_in_the_operational_store()
     ensures created { decisions (opened []) (crossed (oper (put a "x")) (oper (put a "y"))) ≡ Done 1 ∷ Conflict Oper a Created 1 ∷ [] }
     ensures changed { decisions (opened_oper (leaf a "o" ∷ [])) (crossed (oper (merge a "x")) (oper (put a "y"))) ≡ Done 1 ∷ Conflict Oper a Changed 1 ∷ [] }
@@ -115,7 +115,7 @@ pub fn a_row_that_came_and_went()
         ≡ Done 1 ∷ Conflict Config box Changed 1 ∷ [] }
 {}
 
-/// A put below a container that another deleted: the container is named.
+/// A put below a container that another client deleted: the conflict names the container.
 pub fn deleted_parent()
     ensures { decisions (stocked (mark depot ∷ [])) (crossed (delete depot) (put name "m")) ≡ Done 1 ∷ Conflict Config depot Deleted 1 ∷ [] }
 {}
@@ -126,7 +126,7 @@ pub fn parent_of_a_covered_put()
         ≡ Done 1 ∷ Conflict Config depot Deleted 1 ∷ [] }
 {}
 
-/// A parent that the transaction itself sets before is there again.
+/// A parent that the transaction itself sets before is present.
 pub fn a_parent_that_the_transaction_sets()
     ensures { decisions (stocked (mark depot ∷ [])) (met (delete depot ∷ []) (merge_rows depot (mark depot ∷ []) ∷ put name "m" ∷ []))
         ≡ Done 1 ∷ Done 2 ∷ [] }
@@ -144,7 +144,7 @@ pub fn unique_over_two_commits()
         ≡ Done 1 ∷ Invalid Config items (Unique 2) ∷ [] }
 {}
 
-/// Where the operational store would break a rule, neither store changes; the configuration is judged first.
+/// If the operational store would break a rule, neither store changes; the configuration is checked first.
 pub fn both_stores_or_none()
     ensures outcome { decisions (stocked []) (alone (put_rows depot (mark depot ∷ []) ∷ put name "m" ∷ oper (put_rows seen three_seen) ∷ [])) ≡ Invalid Oper seen (MaxElements 7) ∷ [] }
     ensures configuration { newest_tree (stocked []) (alone (put_rows depot (mark depot ∷ []) ∷ put name "m" ∷ oper (put_rows seen three_seen) ∷ [])) 0 Config ≡ [] }
@@ -152,7 +152,7 @@ pub fn both_stores_or_none()
     ensures both_broken { decisions (stocked []) (alone (put_rows depot (mark depot ∷ coded_item 1 7 ++ coded_item 2 7) ∷ oper (put_rows seen three_seen) ∷ [])) ≡ Invalid Config items (Unique 2) ∷ [] }
 {}
 
-/// Where 4,096 receipts are pending a submit is refused, and with one less it has the next receipt.
+/// With 4,096 pending receipts a submit is refused, and with one fewer it has the next receipt.
 pub fn full_pipeline()
     ensures full { (answered : List Answered) (place : ℕ) → pending answered ≡ 4096 → submitted answered place ≡ Refused PipelineFull }
     ensures room { (answered : List Answered) (place : ℕ) → pending answered ≡ 4095 → is_spent answered place ≡ false → submitted answered place ≡ Receipt (length (sents answered) + 1) }

@@ -1,4 +1,4 @@
-//! Worked examples of listeners. Each function does nothing; its contract says what the definitions give for one log, and
+//! Worked examples of listeners. Each function does nothing; its contract states what the definitions give for one log, and
 //! the proof computes it.
 #![tactic(auto, unfolding(sal_schema::specs::Table::closest, sal_rules::specs::Breaches::first, sal_rules::specs::Contexts::through_plain, sal_rules::specs::Contexts::from_list, sal_rules::specs::Rules::is_there))]
 
@@ -14,7 +14,7 @@ ghost use Rattle.sal_history.specs.History.{history};
 ghost use Rattle.sal_history.specs.Listeners.{live_listeners, version};
 ghost use Rattle.sal_history.specs.Listening.{between, change, last_reply, listen, part_of, removed, text, watched};
 
-/// A leaf comes, changes and goes: each commit has its part, by the leaf's own row.
+/// A leaf is created, changed and deleted: each commit has its part, by the leaf's own row.
 pub fn a_leaf_comes_and_goes()
     ensures { last_reply (opened []) (watched a (put a "1" ∷ []) (put a "2" ∷ []) (delete a ∷ []))
         ≡ Some (Batch 0 (record {
@@ -36,8 +36,8 @@ pub fn a_container_appears()
         })) }
 {}
 
-/// Of three commits the second has no part: it writes the value that stands there. Then it writes another leaf, and then the other
-/// store.
+/// Of three commits the second has no part: it writes the value that the leaf has already. Then it writes another leaf, and then the
+/// other store.
 pub fn a_commit_without_a_part()
     ensures equal { last_reply (opened []) (watched a (put a "1" ∷ []) (put a "1" ∷ []) (put a "2" ∷ []))
         ≡ Some (Batch 0 (record { from = 0; to = 3; lists = part_of 1 Write (change a None (Some (text "1"))) ∷ part_of 3 Write (change a (Some (text "1")) (Some (text "2"))) ∷ [] })) }
@@ -47,7 +47,7 @@ pub fn a_commit_without_a_part()
         ≡ Some (Batch 0 (record { from = 0; to = 3; lists = part_of 1 Write (change a None (Some (text "1"))) ∷ part_of 3 Write (change a (Some (text "1")) (Some (text "2"))) ∷ [] })) }
 {}
 
-/// A listener that is opened between two commits begins with what the first left. Each take goes on where the last one ended.
+/// A listener that is opened between two commits begins with the trees after the first. Each batch begins where the last one ended.
 pub fn a_listener_between_commits()
     ensures replies { replies (opened []) (between (put a "1") (put a "2") (put a "3"))
         ≡ Begun 0 None ∷ Receipt 1 ∷ Settled 0 (Done 1) ∷ Listener 1 0 a (record { version = 1; rows = leaf a "1" ∷ [] }) ∷ Begun 1 None ∷ Receipt 2 ∷ Settled 0 (Done 2)
@@ -56,7 +56,7 @@ pub fn a_listener_between_commits()
     ensures version { version (history (opened []) (between (put a "1") (put a "2") (put a "3"))) 1 ≡ 3 }
 {}
 
-/// A listener is its client's own, and answers no more once it is removed. Its id is not given again.
+/// Only its own client may use a listener, and only until it is removed. Its id is not reused.
 pub fn a_removed_listener()
     ensures replies { replies (opened []) removed
         ≡ Listener 1 0 a (record { version = 0; rows = [] }) ∷ Listener 2 0 box (record { version = 0; rows = [] }) ∷ Refused (NoListener 1) ∷ Refused (NoListener 1) ∷ Accepted
@@ -64,7 +64,7 @@ pub fn a_removed_listener()
     ensures live { live_listeners (history (opened []) removed) ≡ 2 }
 {}
 
-/// What is pending is not seen: a batch has what was decided as done alone.
+/// A pending submission is not visible: a batch has only commits.
 pub fn a_pending_submission_is_not_seen()
     ensures { last_reply (opened []) (by 0 (listen a) ∷ by 1 begin ∷ by 1 (Submit 1 (put a "1" ∷ [])) ∷ by 0 (Take 1) ∷ []) ≡ Some (Batch 0 (record { from = 0; to = 0; lists = [] })) }
 {}

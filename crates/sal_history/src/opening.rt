@@ -1,4 +1,4 @@
-//! What a domain has before the first commit.
+//! The state of a domain before the first commit.
 use sal_rows::Rows;
 use sal_schema::Schema;
 use std::sync::Arc;
@@ -11,7 +11,7 @@ pub struct Opening {
 }
 
 /// A domain before the first commit: version 0 of its schema, the versions after it in order, and its opening trees, which
-/// are read by version 0. The first device of a world alone may have more than one version.
+/// are read by version 0. Only the first device of a world may have more than one version.
 #[derive(Drop)]
 pub struct Device {
     pub schema: Arc<Schema>,

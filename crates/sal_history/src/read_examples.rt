@@ -1,4 +1,4 @@
-//! Worked examples of checked reads. Each function does nothing; its contract says what the definitions give for one log, and the
+//! Worked examples of checked reads. Each function does nothing; its contract states what the definitions give for one log, and the
 //! proof computes it.
 #![tactic(auto, unfolding(sal_schema::specs::Table::closest, sal_rules::specs::Breaches::first, sal_rules::specs::Contexts::through_plain, sal_rules::specs::Contexts::from_list, sal_rules::specs::Rules::is_there))]
 
@@ -12,8 +12,8 @@ ghost use Rattle.sal_history.specs.Chains.{chained};
 ghost use Rattle.sal_history.specs.Examples.{a, b, box, crossed, decisions, delete, leaf, merge, met, opened, overtaken, put, read, replies, skewed};
 ghost use Rattle.sal_history.specs.History.{newest_tree};
 
-/// Write skew: each of two transactions reads the leaf that the other puts. In a mode whose reads are not checked both are done, and
-/// no order of the two gives what they read. In mode `Checked` the second is a conflict at the leaf that it read, with the commit of
+/// Write skew: each of two transactions reads the leaf that the other puts. In a mode without checked reads both are done, and
+/// no order of the two gives what they read. In mode `Checked` the second has a conflict at the leaf that it read, with the commit of
 /// the first.
 pub fn write_skew()
     ensures unchecked { decisions (opened (leaf a "1" ∷ leaf b "1" ∷ [])) (skewed Rw) ≡ Done 1 ∷ Done 2 ∷ [] }
@@ -22,14 +22,14 @@ pub fn write_skew()
     ensures tree { newest_tree (opened (leaf a "1" ∷ leaf b "1" ∷ [])) (skewed Checked) 0 Config ≡ leaf a "0" ∷ leaf b "1" ∷ [] }
 {}
 
-/// A transaction that only read is done where no commit touched what it read, and is a commit that changes nothing.
+/// A transaction that only reads is done if no commit touched what it read, and is then a commit that changes nothing.
 pub fn reads_of_untouched_paths()
     ensures decisions { decisions (opened (leaf b "1" ∷ [])) (crossed (put a "x") (read b)) ≡ Done 1 ∷ Done 2 ∷ [] }
     ensures tree { newest_tree (opened (leaf b "1" ∷ [])) (crossed (put a "x") (read b)) 0 Config ≡ leaf a "x" ∷ leaf b "1" ∷ [] }
     ensures absent { decisions (opened []) (crossed (put a "x") (read b)) ≡ Done 1 ∷ Done 2 ∷ [] }
 {}
 
-/// A read looks at all below its path: a leaf that another created, changed or deleted there is a conflict of the read.
+/// A read checks all below its path: a leaf that another client created, changed or deleted there is a conflict of the read.
 pub fn reads_of_touched_paths()
     ensures created { decisions (opened []) (crossed (put a "x") (read a)) ≡ Done 1 ∷ Conflict Config a Created 1 ∷ [] }
     ensures below { decisions (opened (leaf b "1" ∷ [])) (crossed (put a "x") (read box)) ≡ Done 1 ∷ Conflict Config box Changed 1 ∷ [] }
@@ -42,7 +42,7 @@ pub fn created_and_deleted_again()
     ensures { decisions (opened []) (overtaken (read a) (put a "q") (delete a)) ≡ Done 1 ∷ Done 2 ∷ Done 3 ∷ [] }
 {}
 
-/// Reads are tested after all writes: where a read and a later put have a conflict, that of the put counts.
+/// Reads are tested after all writes: if a read and a later put have a conflict, that of the put is the outcome.
 pub fn writes_go_before_reads()
     ensures { decisions (opened []) (met (put a "x" ∷ put b "y" ∷ []) (read a ∷ put b "z" ∷ [])) ≡ Done 1 ∷ Conflict Config b Created 1 ∷ [] }
 {}

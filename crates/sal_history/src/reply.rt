@@ -1,13 +1,13 @@
-//! What a shared call is answered.
+//! The replies to shared calls.
 use sal_note::NoteList;
 use sal_rows::{Batch, CallFault, Opened, Outcome, Rows};
 use sal_rpc::Request;
 use sal_types::Path;
 
-/// The answer to a shared call, as the log gives it.
+/// The reply to a shared call, as the log defines it.
 #[derive(Drop)]
 pub enum Reply {
-    /// The transaction stands on this commit, and on the pending receipt, if any.
+    /// The transaction's base is this commit, and it follows the pending receipt, if any.
     Begun {
         commit: u64,
         on: Option<u64>,
@@ -16,7 +16,7 @@ pub enum Reply {
     Chain {
         id: u64,
     },
-    /// The call was done, and has nothing to tell.
+    /// The call was done; there is no other result.
     Accepted,
     /// The submission has this receipt.
     Receipt {
@@ -27,7 +27,7 @@ pub enum Reply {
         domain: u32,
         outcome: Outcome,
     },
-    /// This receipt was decided, of a submission of the domain, with this outcome.
+    /// This receipt, of a submission of the domain, was decided with this outcome.
     Decided {
         receipt: u64,
         domain: u32,
@@ -35,14 +35,14 @@ pub enum Reply {
     },
     /// No receipt is pending; no request waits; the request is not answered yet.
     Nothing,
-    /// The listener has this id, and is given this for its beginning, of the path in the domain.
+    /// The listener has this id, and this snapshot of the path in the domain.
     Listener {
         id: u64,
         domain: u32,
         path: Path,
         opened: Opened,
     },
-    /// What changed for a listener of the domain.
+    /// A batch for a listener of the domain.
     Batch {
         domain: u32,
         batch: Batch,
@@ -60,21 +60,21 @@ pub enum Reply {
         rpc: u32,
         rows: Rows,
     },
-    /// So many subscribers have got the notification.
+    /// The number of subscribers that get the notification.
     Offered {
         count: u32,
     },
-    /// What waited for the client, in order.
+    /// The notifications that waited for the client, in order.
     Notes {
         list: NoteList,
     },
-    /// The domain that is mounted at the path, if one is.
+    /// The domain that is mounted at the path, if any.
     MountAt {
         mount: Option<u32>,
     },
-    /// The mark was left before.
+    /// The mark was set before.
     Found,
-    /// The mark was not left before.
+    /// The mark was not set before.
     Late,
     /// The call was refused.
     Refused {

@@ -5,7 +5,7 @@ use sal_rows::{Op, Ops};
 use std::marker::Model;
 use std::sync::Arc;
 
-/// The operations of a submission, in order. The commit that it leads to has the same list, and no copy of it. A contract sees
+/// The operations of a submission, in order. Its commit shares the list, without a copy. A contract sees
 /// the list.
 #[derive(Drop)]
 pub struct SharedOps {

@@ -31,6 +31,7 @@ use Rattle.sal_history.specs.declared.reply.Reply.{Reply}
 use Rattle.sal_history.specs.declared.reply.Reply.TheVariants.{Begun, Receipt, Refused}
 use Rattle.sal_history.specs.Answered.{Answered}
 use Rattle.sal_history.specs.History.{answer, answered_as, base_on, began_at, began_by, chain_refusal, chained_base, commits, decide_front, decide_next, decided_by, domain_of, is_live, newest_base, nowhere, outcome, outcomes, refused_or, history, reply_to, sent_by, sents, stands_on, trees_of}
+use Rattle.sal_history.specs.Numbered.{numbered}
 use Rattle.sal_history.specs.Submissions.{Base, Sent, done, done_chains, done_ops, if_done, is_done}
 use Rattle.sal_history.specs.Versions.{schema_version, tables_now}
 use Rattle.sal_history.specs.World.{Domain, opening_of, rules_of, table_of}
@@ -42,6 +43,7 @@ use Rattle.sal_history_laws.proofs.Conflicts.{done-quiet}
 use Rattle.sal_history_laws.proofs.Closing.{lawful_keeps_closed, without_conflict_stays_closed}
 use Rattle.sal_history.proofs.Unbroken.{done_is}
 use Rattle.sal_history.proofs.Waiting.{added, done_none}
+use Rattle.sal_history.proofs.Numbered.{numbered-is}
 
 -- ---- lists
 
@@ -187,8 +189,8 @@ module _ (world : List Domain) (tables : ℕ → SchemaTable) (are_tables : (dom
 
     chained-closed : (chain : ℕ) → AreClosed (tables (chained_base world answered chain).domain) (chained_base world answered chain).trees
     chained-closed chain =
-        on-closed chain (option_and_then (λ n. slice_get (sents answered) (n - 1)) (stands_on answered chain))
-        (λ s e. option_and_then_some (λ n. slice_get (sents answered) (n - 1)) (stands_on answered chain) s e (λ n there at. (n - 1, at)))
+        on-closed chain (option_and_then (λ n. numbered (sents answered) n) (stands_on answered chain))
+        (λ s e. option_and_then_some (λ n. numbered (sents answered) n) (stands_on answered chain) s e (λ n there at. (n - 1, numbered-is (sents answered) n s at)))
 
     -- what a transaction that a call begins stands on
     begun-closed : (client : ℕ) (call : Call) (b : Base) → began_by world answered call (reply_to world answered client call) ≡ Some b → AreClosed (tables b.domain) b.trees

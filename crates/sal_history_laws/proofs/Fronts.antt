@@ -1,17 +1,18 @@
 -- Fronts of a path.
 use Rattle.std.proofs.Common.{◌≡◌, ℕ, suc, ◌+◌, ◌-◌, ◌<◌, ◌≤◌, zero, Bool, true, false, ◌&&◌, cond, List, [], ◌∷◌, ◌++◌, length, map, take, Some, None, inl, inr, refl, sym, ap, ◌∙◌, arith, append_assoc, append-nil, length-append}
 use Rattle.std.specs.Prelude.{find}
-use Rattle.std.specs.List.{slice_get}
+use Rattle.std.specs.List.{list_all, slice_get}
 use Rattle.std.specs.Ordering.{eq_by_cmp, is_eq}
 use Rattle.std.specs.Cmp.{tied_itself, Equal-is}
-use Rattle.std.proofs.lemmas.Bool.{and_parts, true≢false, cases_eq}
+use Rattle.std.proofs.lemmas.Bool.{and_from, and_parts, true≢false, cases_eq}
+use Rattle.std.proofs.lemmas.List.Folds.{list_all-map}
 use Rattle.sal_types.specs.declared.value.Step.{Step}
 use Rattle.sal_types.specs.Order.{step_cmp, step_cmp-IsAntisymmetric, step_cmp-IsTotalOrder}
 use Rattle.sal_types.specs.Prefix.{is_prefix}
 use Rattle.sal_types.proofs.Prefixes.{IsPrefix-from_test, is_prefix-append}
 use Rattle.sal_rows.specs.Clash.{depths_above}
 use Rattle.sal_rows.specs.Commits.{numbers_after}
-use Rattle.sal_schema.specs.Fitting.{is_root}
+use Rattle.sal_schema.specs.Fitting.{is_root, prefixes}
 use Rattle.sal_schema.specs.Paths.{last_step}
 use Rattle.sal_rules.specs.Refusals.{above}
 use Rattle.sal_types.proofs.Shared.{slice_get-end}
@@ -141,3 +142,20 @@ none_by_depth t p q none inside below strict =
         let back : is_prefix p q ≡ true = ap (λ x. is_prefix x q) (e ∙ append-nil q) ∙ front_itself q in
         absurd (true≢false (sym back ∙ strict))
     longer (s ∷ rest) e = let long : length p ≡ length q + length (s ∷ rest) = ap length e ∙ length-append q (s ∷ rest) in omega (arith, long)
+
+-- ---- all fronts of a path
+
+pub all_fronts : (t : List Step → Bool) (r q : List Step) → list_all t (prefixes r) ≡ true → is_prefix q r ≡ true → t q ≡ true
+all_fronts t [] [] all below = (and_parts (t []) true all).0
+all_fronts t [] (s ∷ q) all below = cc
+all_fronts t (u ∷ r) [] all below = (and_parts (t []) (list_all t (map (λ p. u ∷ p) (prefixes r))) all).0
+all_fronts t (u ∷ r) (s ∷ q) all below =
+    let (here, rest) = and_parts (eq_by_cmp step_cmp s u) (is_prefix q r) below in
+    let later = (and_parts (t []) (list_all t (map (λ p. u ∷ p) (prefixes r))) all).1 in
+    ap (λ x. t (x ∷ q)) (same_step s u here) ∙ all_fronts (λ p. t (u ∷ p)) r q (sym (list_all-map t (λ p. u ∷ p) (prefixes r)) ∙ later) rest
+
+pub of_fronts : (t : List Step → Bool) (r : List Step) → ((q : List Step) → is_prefix q r ≡ true → t q ≡ true) → list_all t (prefixes r) ≡ true
+of_fronts t [] all = and_from (t []) true (all [] refl) refl
+of_fronts t (u ∷ r) all =
+    and_from (t []) (list_all t (map (λ p. u ∷ p) (prefixes r))) (all [] refl)
+    (list_all-map t (λ p. u ∷ p) (prefixes r) ∙ of_fronts (λ p. t (u ∷ p)) r (λ q below. all (u ∷ q) (ap (λ b. b && is_prefix q r) (step_itself u) ∙ below)))

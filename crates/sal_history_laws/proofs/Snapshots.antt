@@ -1,5 +1,5 @@
 -- A transaction that began on no pending submission sees the trees at its base commit, however long the log grows.
-use Rattle.std.proofs.Common.{◌≡◌, ◌⊎◌, inl, inr, ℕ, ◌+◌, ◌-◌, ◌≤◌, List, [], ◌∷◌, ◌++◌, length, take, Option, None, Some, refl, ap, sym, ◌∙◌, subst, arith, append-nil, length-append}
+use Rattle.std.proofs.Common.{◌≡◌, ◌⊎◌, inl, inr, ℕ, ◌+◌, ◌≤◌, List, [], ◌∷◌, ◌++◌, length, take, Option, None, Some, refl, ap, sym, ◌∙◌, subst, arith, append-nil, length-append}
 use Rattle.std.specs.Prelude.{map, slice_get, option_and_then}
 use Rattle.std.specs.List.{fold}
 use Rattle.std.specs.Option.{option_to_list}
@@ -19,6 +19,7 @@ use Rattle.sal_history.specs.declared.reply.Reply.{Reply}
 use Rattle.sal_history.specs.declared.reply.Reply.TheVariants.{Begun, Refused}
 use Rattle.sal_history.specs.Answered.{Answered}
 use Rattle.sal_history.specs.History.{answer, answered_as, base_on, began_by, chain_refusal, chained_base, commits, domain_of, history, is_live, newest_base, outcomes, refused_or, reply_to, sents, stands_on, trees_at}
+use Rattle.sal_history.specs.Numbered.{numbered}
 use Rattle.sal_history.specs.Submissions.{Base, Sent, done}
 use Rattle.sal_history.specs.World.{Domain, opening_of}
 use Rattle.sal_history.proofs.Logs.{IsSound, IsSound-answer, IsSound-nothing}
@@ -90,10 +91,10 @@ module _ (world : List Domain) where
         let replied : Begun (chained_base world answered chain).commit (stands_on answered chain) ≡ Begun told.0 None = told.1 in
         let nothing : stands_on answered chain ≡ None = cc in
         let newest : chained_base world answered chain ≡ newest_base world answered (domain_of answered chain) (Some chain) =
-        ap (λ (o : Option ℕ). base_on world answered chain (option_and_then (λ n. slice_get (sents answered) (n - 1)) o)) nothing in
+        ap (λ (o : Option ℕ). base_on world answered chain (option_and_then (λ n. numbered (sents answered) n) o)) nothing in
         subst (IsSnapshot world answered) (sym newest ∙ same) (newest-snapshot answered (domain_of answered chain) (Some chain))
     chained_plain chain b same (inr none) =
-        let of : b.chain ≡ Some chain = ap (λ (x : Base). x.chain) (sym same) ∙ of_chain chain (option_and_then (λ n. slice_get (sents answered) (n - 1)) (stands_on answered chain)) in
+        let of : b.chain ≡ Some chain = ap (λ (x : Base). x.chain) (sym same) ∙ of_chain chain (option_and_then (λ n. numbered (sents answered) n) (stands_on answered chain)) in
         absurd (none-some chain (sym none ∙ of))
 
     -- what a call with its answer begins

@@ -1,30 +1,29 @@
 -- What it is for rows to fit, cell by cell.
-use Rattle.std.proofs.Common.{◌≡◌, ℕ, Bool, true, false, ◌&&◌, not, ◌==◌, List, [], ◌∷◌, ◌++◌, map, get_or, Option, Some, None, inl, inr, refl, sym, ap, ◌∙◌, arith}
+use Rattle.std.proofs.Common.{◌≡◌, ℕ, Bool, true, false, ◌&&◌, not, ◌==◌, List, [], ◌∷◌, ◌++◌, get_or, Option, Some, None, inl, inr, refl, sym, ap, ◌∙◌, arith}
 use Rattle.std.specs.Prelude.{◌||◌, is_some, nat_eq}
 use Rattle.std.specs.List.{list_all, slice_get}
 use Rattle.std.specs.Option.{option_map_or}
 use Rattle.std.specs.Ordering.{eq_by_cmp}
 use Rattle.std.proofs.lemmas.Bool.{and_parts, and_from, or_cases, or_right, eqb-true, eq-eqb}
-use Rattle.std.proofs.lemmas.List.Folds.{list_all-map}
 use Rattle.sal_types.specs.declared.value.Value.{Value}
 use Rattle.sal_types.specs.declared.value.Cell.{Cell}
 use Rattle.sal_types.specs.declared.value.Cell.TheVariants.{Leaf}
 use Rattle.sal_types.specs.declared.value.Step.{Step}
 use Rattle.sal_types.specs.declared.value.Step.TheVariants.{Node, Key, Item}
 use Rattle.sal_types.specs.declared.row.Row.{Row}
-use Rattle.sal_types.specs.Order.{step_cmp, cell_cmp}
+use Rattle.sal_types.specs.Order.{cell_cmp}
 use Rattle.sal_types.specs.Prefix.{is_prefix}
 use Rattle.sal_types.specs.Tree.{cell, IsAscending}
 use Rattle.sal_schema.specs.declared.table.NodeInfo.{NodeInfo}
 use Rattle.sal_schema.specs.declared.table.SchemaTable.{SchemaTable}
-use Rattle.sal_schema.specs.Fitting.{has_mark, cell_fits, prefixes, has_cell, has_key_leafs, has_keys, is_whole_at, is_whole_above, is_in_message, is_root, row_fits, fits, is_key}
+use Rattle.sal_schema.specs.Fitting.{has_mark, cell_fits, has_cell, has_key_leafs, has_keys, is_whole_at, is_whole_above, is_in_message, is_root, row_fits, fits, is_key}
 use Rattle.sal_schema.specs.Kinds.{is_leaf, is_list}
 use Rattle.sal_schema.specs.Paths.{fits_path, last_step, node_of}
 use Rattle.sal_schema.specs.Table.{is_among, is_kind, is_same, keys_of, parent_of}
 use Rattle.sal_schema.specs.Valid.{IsTable, has_its_keys, agree, is_empty, all_differ}
 use Rattle.sal_schema.proofs.Facts.{slice_get_some}
 use Rattle.sal_schema.proofs.Numbered.{all_from-at}
-use Rattle.sal_history_laws.proofs.Fronts.{same_step, step_itself}
+use Rattle.sal_history_laws.proofs.Fronts.{all_fronts, of_fronts}
 use Rattle.sal_history_laws.proofs.Standing.{at_cell, at_rows}
 
 number_itself : (n : ℕ) → (n == n) ≡ true
@@ -33,23 +32,6 @@ number_itself n = eq-eqb n n refl
 parent_is : (o : Option ℕ) (n : ℕ) → is_same o (Some n) ≡ true → o ≡ Some n
 parent_is None n e = cc
 parent_is (Some m) n e = ap Some (eqb-true m n e)
-
--- ---- all fronts of a path
-
-all_fronts : (t : List Step → Bool) (r q : List Step) → list_all t (prefixes r) ≡ true → is_prefix q r ≡ true → t q ≡ true
-all_fronts t [] [] all below = (and_parts (t []) true all).0
-all_fronts t [] (s ∷ q) all below = cc
-all_fronts t (u ∷ r) [] all below = (and_parts (t []) (list_all t (map (λ p. u ∷ p) (prefixes r))) all).0
-all_fronts t (u ∷ r) (s ∷ q) all below =
-    let (here, rest) = and_parts (eq_by_cmp step_cmp s u) (is_prefix q r) below in
-    let later = (and_parts (t []) (list_all t (map (λ p. u ∷ p) (prefixes r))) all).1 in
-    ap (λ x. t (x ∷ q)) (same_step s u here) ∙ all_fronts (λ p. t (u ∷ p)) r q (sym (list_all-map t (λ p. u ∷ p) (prefixes r)) ∙ later) rest
-
-of_fronts : (t : List Step → Bool) (r : List Step) → ((q : List Step) → is_prefix q r ≡ true → t q ≡ true) → list_all t (prefixes r) ≡ true
-of_fronts t [] all = and_from (t []) true (all [] refl) refl
-of_fronts t (u ∷ r) all =
-    and_from (t []) (list_all t (map (λ p. u ∷ p) (prefixes r))) (all [] refl)
-    (list_all-map t (λ p. u ∷ p) (prefixes r) ∙ of_fronts (λ p. t (u ∷ p)) r (λ q below. all (u ∷ q) (ap (λ b. b && is_prefix q r) (step_itself u) ∙ below)))
 
 -- ---- one cell
 

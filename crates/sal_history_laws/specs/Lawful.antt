@@ -13,8 +13,8 @@ use Rattle.sal_rules.specs.Writes.{IsForSchema}
 abbrev pub AreClosed : SchemaTable → (Store → List Row) → Type 0
 AreClosed table trees = (s : Store) → IsTrue (is_closed table (trees s))
 
--- Each operation that is no read is one for the schema, and is not refused over the base after the operations before it. A read may be
--- of any path.
+-- Each operation that is no read is one for the schema, and is not refused over the base with the operations before it applied. A read may
+-- be of any path.
 abbrev pub AreLawful : SchemaTable → (Store → List Row) → List Op → List Op → Type 0
 AreLawful table base earlier [] = Unit {0}
 AreLawful table base earlier (op ∷ ops) =

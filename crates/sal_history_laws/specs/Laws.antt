@@ -22,14 +22,14 @@ use Rattle.sal_history.specs.declared.call.Entry.{Entry}
 use Rattle.sal_history_laws.specs.Lawful.{AreClosed, AreLawful}
 use Rattle.sal_history_laws.specs.Logs.{AreSentLawful, AreSound, IsClosedLog, IsSentLawful}
 
--- Operations that are lawful over closed trees make closed trees of them.
+-- Operations that are lawful over closed trees give closed trees.
 abbrev pub LawfulKeepsClosed : Type 0
 LawfulKeepsClosed =
     (table : SchemaTable) (base : Store → List Row) (ops : List Op) → IsTable table → AreClosed table base → AreLawful table base [] ops
     → AreClosed table (λ s. apply_ops (base s) s ops)
 
--- And so they do of the newest trees, where they have no conflict with the commits in the spans: whatever the version rules and the
--- spans are, and wherever the base comes from.
+-- And they give closed trees from the newest ones, if they have no conflict with the commits in the spans: for any version rules, any
+-- spans and any base.
 abbrev pub WithoutConflictStaysClosed : Type 0
 WithoutConflictStaysClosed =
     (table : SchemaTable) (opening : Store → List Row) (commits : List (List Op)) (rules : Rules) (base : Store → List Row) (spans : List Span) (ops : List Op)
@@ -45,12 +45,12 @@ WithoutConflictStaysLawful =
     → clash opening commits rules base spans ops ≡ None
     → AreLawful table (tip opening commits) [] ops
 
--- So each log whose submissions are lawful by the present version has closed trees alone, by that version, where its opening trees are
--- closed by version 0: whatever the versions were by which it was decided.
+-- So a log whose submissions are lawful by the present version has only closed trees, by that version, if its opening trees are
+-- closed by version 0: for any versions by which the submissions were decided.
 abbrev pub LogsStayClosed : Type 0
 LogsStayClosed = (world : List Domain) (log : List Entry) → AreSound world → AreSentLawful world (history world log) → IsClosedLog world (history world log)
 
--- What is lawful over a base by a version of a schema is so by each later version.
+-- Operations that are lawful over a base by a version of a schema are lawful by each later version.
 abbrev pub LawfulStays : Type 0
 LawfulStays =
     (newer older : SchemaTable) (base : Store → List Row) (earlier ops : List Op) → IsTable older → Extends newer older
@@ -61,13 +61,13 @@ abbrev pub ClosedStays : Type 0
 ClosedStays =
     (newer older : SchemaTable) (trees : Store → List Row) → IsTable older → Extends newer older → AreClosed older trees → AreClosed newer trees
 
--- So an entry more leaves each submission before it lawful by the version that is present then, where it was so by the one before.
+-- So after one more entry each submission before it is lawful by the present version, if it was lawful by the version before.
 abbrev pub SentsStayLawful : Type 0
 SentsStayLawful =
     (world : List Domain) (answered : List Answered) (a : Answered) (s : Sent) → AreSound world
     → IsSentLawful (tables_now world answered) s → IsSentLawful (tables_now world (answered ++ a ∷ [])) s
 
--- In a closed tree, where something stands at a path, a row of its own does exactly where the path's node has one by its kind: a
+-- In a closed tree, a present node has its own row exactly if its kind has one: a
 -- presence container, an entry, a leaf.
 abbrev pub OwnRowsStand : Type 0
 OwnRowsStand =

@@ -1,4 +1,4 @@
--- What it takes that the trees of a log are closed, and which trees these are. Both are said by the present version of the schema.
+-- Conditions for closed trees in a log, and which trees these are. Both refer to the present version of the schema.
 use Rattle.std.specs.Prelude.{◌≡◌, ℕ, suc, List, [], Some, slice_get}
 use Rattle.sal_schema.specs.declared.table.SchemaTable.{SchemaTable}
 use Rattle.sal_schema.specs.Valid.{IsTable}
@@ -19,7 +19,7 @@ pub record IsSound (domain : Domain) : Type 0 where
 abbrev pub AreSound : List Domain → Type 0
 AreSound world = (number : ℕ) (domain : Domain) → slice_get world number ≡ Some domain → IsSound domain
 
--- a submission's operations are lawful, by these tables, over the trees that its transaction stands on
+-- a submission's operations are lawful, by these tables, over the trees of its transaction's base
 abbrev pub IsSentLawful : (ℕ → SchemaTable) → Sent → Type 0
 IsSentLawful tables s = AreLawful (tables s.base.domain) s.base.trees [] s.ops
 
@@ -27,8 +27,8 @@ IsSentLawful tables s = AreLawful (tables s.base.domain) s.base.trees [] s.ops
 abbrev pub AreSentLawful : List Domain → List Answered → Type 0
 AreSentLawful world answered = (i : ℕ) (s : Sent) → slice_get (sents answered) i ≡ Some s → IsSentLawful (tables_now world answered) s
 
--- The trees of each domain at each of its commits are closed by its present table, the opening and the newest ones among them; so are
--- those that a transaction stands on.
+-- The trees of each domain at each of its commits are closed by its present table, the opening and the newest ones included; so are
+-- those of each transaction's base.
 pub record IsClosedLog (world : List Domain) (answered : List Answered) : Type 0 where
   pub commits : (domain k : ℕ) → AreClosed (tables_now world answered domain) (λ s. trees_at world answered domain s k)
   pub bases : (place : ℕ) (b : Base) → began_at answered place ≡ Some b → AreClosed (tables_now world answered b.domain) b.trees

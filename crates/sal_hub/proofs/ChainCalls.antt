@@ -11,7 +11,7 @@ use Rattle.sal_rows.specs.declared.outcome.Mode.{Mode}
 use Rattle.sal_rows.specs.Apply.{apply_ops}
 use Rattle.sal_rows.specs.Spans.{is_of_chain}
 use Rattle.sal_tree.specs.declared.commit.Pair.{Pair}
-use Rattle.sal_graft.specs.Kept.{rows_in as kept_rows}
+use Rattle.sal_graft.specs.Kept.{AreKept, rows_in as kept_rows}
 use Rattle.sal_tx.specs.declared.tx.Submission.{Submission}
 use Rattle.sal_tx.specs.declared.tx.Tx.{Tx}
 use Rattle.sal_tx.specs.Views.{rows_in}
@@ -21,8 +21,10 @@ use Rattle.sal_history.specs.declared.call.Entry.{Entry}
 use Rattle.sal_history.specs.declared.reply.Reply.TheVariants.{Begun, Chain as Opened, Refused}
 use Rattle.sal_history.specs.World as world
 use Rattle.sal_history.specs.History.{Answered, base_on, began_by, begins_in, chain_domains, chain_refusal, chained_base, domain_of, entries_of, failed_by, fault_if, has_open, is_closed, is_live, last_begun, newest_base, opened_chain, refused_or, reply_to, sents, stands_on}
+use Rattle.sal_history.specs.Numbered.{numbered}
 use Rattle.sal_history.specs.Submissions.{Base, Sent, failing, is_in, last_receipt}
 use Rattle.sal_history.specs.Versions.{schema_version}
+use Rattle.sal_history.proofs.Numbered.{numbered-at}
 use Rattle.sal_hub.specs.declared.chain.Chain.{Chain}
 use Rattle.sal_hub.specs.declared.chains.Chains.{Chains}
 use Rattle.sal_hub.specs.declared.pipeline.Pipeline.{Pipeline}
@@ -45,7 +47,7 @@ use Rattle.sal_hub.proofs.Keeping.{length-submissions, or_false, pushed, still_l
 use Rattle.sal_hub.proofs.Listed.{slice_get_seam}
 use Rattle.sal_hub.proofs.Members.{last_from-passes, last_from-within}
 use Rattle.sal_hub.proofs.Noted.{flag_at, flag_in-push, length-with, noted_at, noted_in-push, noted_in-with}
-use Rattle.sal_hub.proofs.Serving.{live_within, shown_at}
+use Rattle.sal_hub.proofs.Serving.{kept_at, live_within, shown_at}
 use Rattle.sal_hub.proofs.Settling.{kept_sent}
 use Rattle.sal_hub.proofs.Standing.{allowed_live}
 use Rattle.sal_hub.proofs.Starting.{same_rows}
@@ -194,7 +196,7 @@ module _ (journal : Noted) (p : Pipeline) (is : IsKept journal p) (cs : Chains) 
       (omega (arith, h.0), omega (arith, h.1, long))
 
   pub domain_is : domain_of (answers journal.log (queue_of p)) chain.id ≡ chain.domain
-  domain_is = ap (λ (o : Option ℕ). unwrap_or o 0) token.1
+  domain_is = ap (λ (o : Option ℕ). unwrap_or o 0) (numbered-at (chain_domains done) chain.id chain.domain token.0 token.1)
 
   pub refused_by : (closed : Bool) (failed : Option ℕ) (waits : Bool) (live : Bool) → closed ≡ is_closed (answers journal.log (queue_of p)) chain.id → failed ≡ failed_by (answers journal.log (queue_of p)) chain.id
       → waits ≡ has_open (answers journal.log (queue_of p)) chain.id → live ≡ is_live_in (queue_of p).domains chain.domain
@@ -220,6 +222,9 @@ module _ (journal : Noted) (p : Pipeline) (is : IsKept journal p) (cs : Chains) 
 
   pub domain_at : (d : Domain) → d ≡ get_or p.domains.items chain.domain d → slice_get (map shown p.domains.items) chain.domain ≡ Some (shown d)
   domain_at d at = shown_at p.domains.items chain.domain d domain_within at
+
+  pub domain_kept : (d : Domain) → d ≡ get_or p.domains.items chain.domain d → AreKept d.commits.items
+  domain_kept d at = kept_at p.domains.items chain.domain d is.kept domain_within at
 
 module _ (journal : Noted) (p : Pipeline) (is : IsKept journal p) (cs : Chains) (are : AreChains (known_of journal p) cs) (chain : Chain) (token : IsChain (known_of journal p) chain) (allowed : chain_refusal (world_in (queue_of p).domains) (answers journal.log (queue_of p)) chain.id ≡ None)
     (d : Domain) (at : slice_get (map shown p.domains.items) chain.domain ≡ Some (shown d)) (sent : Option ℕ) (sent_at : sent ≡ get_or cs.sent.items (chain.id - 1) sent) (footing : Footing) (stands : IsFooting (pending_of (length p.outcomes.items) sent) p d footing)
@@ -273,7 +278,7 @@ module _ (journal : Noted) (p : Pipeline) (is : IsKept journal p) (cs : Chains) 
       let place : p.gone + (n - 1 - p.gone) ≡ n - 1 = omega (arith, late, is.current.sound.behind) in
       ap (slice_get (sents so_far)) (sym place) ∙ kept_sent journal p is (n - 1 - p.gone) sub at
 
-  base_footing : (o : Option ℕ) → ((n : ℕ) → o ≡ Some n → sent ≡ Some n) → ((n : ℕ) → o ≡ Some n → length p.outcomes.items < n) → IsFooting o p d footing → base_on there so_far chain.id (option_and_then (λ n. slice_get (sents so_far) (n - 1)) o) ≡ begun_base
+  base_footing : (o : Option ℕ) → ((n : ℕ) → o ≡ Some n → sent ≡ Some n) → ((n : ℕ) → o ≡ Some n → length p.outcomes.items < n) → IsFooting o p d footing → base_on there so_far chain.id (option_and_then (λ n. numbered (sents so_far) n) o) ≡ begun_base
   base_footing None last late newest =
       let domain : domain_of so_far chain.id ≡ chain.domain = domain_is journal p is cs are chain token in
       ap (λ n. newest_base there so_far n (Some chain.id)) domain
@@ -287,7 +292,8 @@ module _ (journal : Noted) (p : Pipeline) (is : IsKept journal p) (cs : Chains) 
       let sub : Submission = on.0 in
       let had = is.current.sound.standing (n - 1 - p.gone) sub on.1 in
       let here : slice_get (sents so_far) (n - 1) ≡ Some (sent_of sub) = last_sent n sub (late n refl) on.1 in
-      ap (base_on there so_far chain.id) here
+      let low : 0 < n = omega (arith, late n refl) in
+      ap (base_on there so_far chain.id) (numbered-at (sents so_far) n (sent_of sub) low here)
       ∙ (λ i. let b : Base = record {
         domain = (last_domain n sub (last n refl) here ∙ sym number) i;
         commit = sym (starts.commit ∙ on.2.commit) i;
@@ -296,7 +302,7 @@ module _ (journal : Noted) (p : Pipeline) (is : IsKept journal p) (cs : Chains) 
       } in b)
 
   base_is : chained_base there so_far chain.id ≡ begun_base
-  base_is = ap (λ (o : Option ℕ). base_on there so_far chain.id (option_and_then (λ n. slice_get (sents so_far) (n - 1)) o)) (sym stands_is) ∙ base_footing (pending_of (length p.outcomes.items) sent) (some_pending sent) (late_pending sent) stands
+  base_is = ap (λ (o : Option ℕ). base_on there so_far chain.id (option_and_then (λ n. numbered (sents so_far) n) o)) (sym stands_is) ∙ base_footing (pending_of (length p.outcomes.items) sent) (some_pending sent) (late_pending sent) stands
 
   on_is : (begun_of tx).on ≡ stands_on so_far chain.id
   on_is = starts.on ∙ on_footing (pending_of (length p.outcomes.items) sent) stands ∙ stands_is

@@ -15,7 +15,8 @@ use Rattle.sal_hub.specs.Failures.{IsWithin, flag_in, noted_in}
 use Rattle.sal_hub.specs.HubHistory.{HubHistory, more}
 use Rattle.sal_hub.proofs.Histories.{begun-push, chains-push, closed-push, now_of, sents-push}
 use Rattle.sal_hub.proofs.Keeping.{or_false}
-use Rattle.sal_hub.proofs.Members.{last_from-push, last_from-some}
+use Rattle.sal_history.proofs.Logs.{last_from-push}
+use Rattle.sal_hub.proofs.Members.{last_from-some}
 use Rattle.sal_hub.proofs.Noted.{noted_within}
 use Rattle.sal_hub.proofs.Placed.{places_now}
 

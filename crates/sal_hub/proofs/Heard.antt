@@ -5,7 +5,7 @@ use Rattle.std.specs.Option.{option_map, option_map_or, option_to_list}
 use Rattle.std.proofs.lemmas.Bool.Decides.{nat_tests}
 use Rattle.std.proofs.lemmas.List.{length-map, length-set, map-append}
 use Rattle.std.proofs.lemmas.List.Sums.{get_or-le-sum_by, sum_by-append, sum_by-set}
-use Rattle.std.proofs.lemmas.Option.{get_or_from_slice_get, same_Some, slice_get-map, slice_get_within}
+use Rattle.std.proofs.lemmas.Option.{get_or_from_slice_get, same_Some, slice_get_within}
 use Rattle.std.proofs.Math.Seq.{map-set_same}
 use Rattle.sal_rows.specs.declared.batch.Batch.{Batch}
 use Rattle.sal_rows.specs.declared.batch.Opened.{Opened}
@@ -15,6 +15,8 @@ use Rattle.sal_history.specs.declared.reply.Reply.{Reply}
 use Rattle.sal_history.specs.declared.reply.Reply.TheVariants.{Accepted, Batch as Told, Listener as Made}
 use Rattle.sal_history.specs.History.{Answered, commits, history, is_live, listen_refusal, reply_to}
 use Rattle.sal_history.specs.Listeners.{Listening, brings_to, has_listener, is_removed, listener_at, listeners, listens, live_listeners, removes, removes_one, version}
+use Rattle.sal_history.specs.Numbered.{numbered}
+use Rattle.sal_history.proofs.Numbered.{numbered-at, numbered-map, numbered-within}
 use Rattle.sal_hub.specs.declared.listener.Listener.{Listener}
 use Rattle.sal_hub.specs.declared.listener.ListenerId.{ListenerId}
 use Rattle.sal_hub.specs.declared.listener_calls.Ask.{Ask}
@@ -42,9 +44,9 @@ module _ (known : HubHistory) (ls : Listeners) (are : AreListeners known ls) whe
   pub refusal_is : (live : Bool) (domain : ℕ) → live ≡ is_live known.world (history known.world known.log) domain → refusal_by live domain ls.live ≡ listen_refusal known.world (history known.world known.log) domain
   refusal_is live domain is = λ i. refusal_by (is i) domain (live_is i)
 
-  pub listener_is : (number : ℕ) (l : Listener) → slice_get ls.list.items (number - 1) ≡ Some l → listener_at (history known.world known.log) number ≡ Some (listening_of l)
-  listener_is number l at =
-      ap (λ (xs : List Listening). slice_get xs (number - 1)) (sym are.made) ∙ slice_get-map listening_of ls.list.items (number - 1) ∙ ap (option_map listening_of) at
+  pub listener_is : (number : ℕ) (l : Listener) → 0 < number → slice_get ls.list.items (number - 1) ≡ Some l → listener_at (history known.world known.log) number ≡ Some (listening_of l)
+  listener_is number l low at =
+      ap (λ (xs : List Listening). numbered xs number) (sym are.made) ∙ numbered-map listening_of ls.list.items number ∙ ap (option_map listening_of) (numbered-at ls.list.items number l low at)
 
   -- the listener of this number, by what the log gives
   pub listened_is : (number : ℕ) (l : Listener) → 0 < number → slice_get ls.list.items (number - 1) ≡ Some l → IsListened known number l
@@ -54,7 +56,7 @@ module _ (known : HubHistory) (ls : Listeners) (are : AreListeners known ls) whe
   has_is client number l low at =
       ap (λ (o : Option Listener). option_map_or (λ (x : Listener). nat_eq x.client client && x.live) o false) at
       ∙ ap (λ b. nat_eq l.client client && b) (listened_is number l low at).live
-      ∙ ap (λ (o : Option Listening). option_map_or (λ (x : Listening). nat_eq x.client client && not (is_removed answered number)) o false) (sym (listener_is number l at))
+      ∙ ap (λ (o : Option Listening). option_map_or (λ (x : Listening). nat_eq x.client client && not (is_removed answered number)) o false) (sym (listener_is number l low at))
 
   -- one that a token names
   pub number_within : (id : ListenerId) → IsListener known id → id.number ≤ length ls.list.items
@@ -63,14 +65,14 @@ module _ (known : HubHistory) (ls : Listeners) (are : AreListeners known ls) whe
       named : (o : Option Listening) → listener_at answered id.number ≡ o → option_map (λ (l : Listening). l.domain) o ≡ Some id.domain → id.number ≤ length ls.list.items
       named None is at = cc
       named (Some l) is at =
-          let low : id.number - 1 < length (listeners answered) = slice_get_within (listeners answered) (id.number - 1) l is in
-          omega (arith, low, token.0, ap length are.made, length-map ls.list.items listening_of)
+          let high : id.number ≤ length (listeners answered) = (numbered-within (listeners answered) id.number l is).1 in
+          omega (arith, high, ap length are.made, length-map ls.list.items listening_of)
 
   pub named_at : (id : ListenerId) → IsListener known id → (l : Listener) × (slice_get ls.list.items (id.number - 1) ≡ Some l)
   named_at id token = let high : id.number ≤ length ls.list.items = number_within id token in slice_get_some ls.list.items (id.number - 1) (omega (arith, high, token.0))
 
   pub domain_named : (id : ListenerId) (l : Listener) → IsListener known id → slice_get ls.list.items (id.number - 1) ≡ Some l → l.domain ≡ id.domain
-  domain_named id l token at = same_Some l.domain id.domain (ap (option_map (λ (x : Listening). x.domain)) (sym (listener_is id.number l at)) ∙ token.1)
+  domain_named id l token at = same_Some l.domain id.domain (ap (option_map (λ (x : Listening). x.domain)) (sym (listener_is id.number l token.0 at)) ∙ token.1)
 
   -- where one is live, some are
   pub some_live : (i : ℕ) (l : Listener) → slice_get ls.list.items i ≡ Some l → l.live ≡ true → 0 < ls.live

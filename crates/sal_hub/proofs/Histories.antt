@@ -16,7 +16,7 @@ use Rattle.sal_history.specs.History.{Answered, answer, answered_as, began_at, b
 use Rattle.sal_history.specs.Services.{mount_call, mounting, note_asked, note_calls, rpc_asked, rpc_calls}
 use Rattle.sal_history.specs.Submissions.{Sent}
 use Rattle.sal_hub.proofs.Listed.{found_more, slice_get_left, slice_get_seam}
-use Rattle.sal_hub.proofs.Members.{last_from-push}
+use Rattle.sal_history.proofs.Logs.{last_from-push}
 pub use Rattle.sal_types.proofs.Shared.{listed}
 
 module _ (world : List Domain) where

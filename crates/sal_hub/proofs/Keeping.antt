@@ -22,7 +22,7 @@ use Rattle.sal_hub.specs.Begins.{AreOfWriters, IsOfWriter, mode_by}
 use Rattle.sal_hub.specs.Current.{IsCurrent, answers, number_of}
 use Rattle.sal_hub.specs.Journals.{mark_at}
 use Rattle.sal_hub.specs.CommitReceipts.{commit_receipts}
-use Rattle.sal_hub.specs.PipelineView.{IsSound, KeepVersions, PipelineView, Stands, chains_in, commits_in, is_live_in, opened_as, receipts_in, sent_of, table_in, version_of, world_in}
+use Rattle.sal_hub.specs.PipelineView.{DomainView, IsSound, KeepVersions, PipelineView, Stands, chains_in, commits_in, is_live_in, opened_as, receipts_in, sent_of, table_in, version_of, world_in}
 use Rattle.sal_hub.proofs.Deciding.{count_is, done-submit, versions-same}
 use Rattle.sal_hub.proofs.Histories.{chains-push, found-push, history-push, length-history, live-quiet, now_of, outcomes-push, sents-push, spent-push}
 use Rattle.sal_hub.proofs.Listed.{last_or_before}
@@ -230,3 +230,33 @@ module _ (ss : List Sent) (queue : PipelineView) (sound : IsSound ss queue) (s :
 -- how many submissions and outcomes there are
 pub length-submissions : (log : List Entry) (marks : List Bool) (queue : PipelineView) → IsCurrent log marks queue → queue.gone + length queue.waiting ≡ length (sents (answers log queue))
 length-submissions log marks queue was = count_is (sents (answers log queue)) queue was.sound
+
+-- ---- over other domains
+
+-- the domain with what a call on domains may change from the other
+abbrev pub as_stored : DomainView → DomainView → DomainView
+as_stored d e = record d { live = e.live; table = e.table; version = e.version; since = e.since }
+
+-- as many domains, and nothing else of them changes
+pub sound_over : (ss : List Sent) (queue : PipelineView) (ds : List DomainView) → length ds ≡ length queue.domains
+    → ((n : ℕ) (e : DomainView) → slice_get ds n ≡ Some e → (d : DomainView) × (slice_get queue.domains n ≡ Some d) × (e ≡ as_stored d e))
+    → IsSound ss queue → IsSound ss (record { domains = ds; gone = queue.gone; waiting = queue.waiting; outcomes = queue.outcomes; failures = queue.failures })
+sound_over ss queue ds long at sound = record {
+  some = omega (arith, sound.some, long);
+  within = sound.within;
+  behind = sound.behind;
+  domains = λ n e here. (
+      let (d, was, same) = at n e here in
+      let had = sound.domains n d was in
+      record {
+        number = ap (λ (x : DomainView). x.number) same ∙ had.number;
+        commits = ap (λ (x : DomainView). x.ops) same ∙ had.commits;
+        chains = ap (λ (x : DomainView). x.chains) same ∙ had.chains;
+        receipts = ap (λ (x : DomainView). x.receipts) same ∙ had.receipts;
+      }
+      );
+  waiting = sound.waiting;
+  standing = λ k s here. let had = sound.standing k s here in record { domain = omega (arith, had.domain, long); base = had.base; chain = had.chain; seen = had.seen };
+  numbers = sound.numbers;
+  failures = sound.failures;
+}

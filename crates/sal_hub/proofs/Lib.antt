@@ -31,3 +31,4 @@ pub mod Upgrading
 pub mod Versioned
 pub mod Wholes
 pub mod Writers
+pub mod Sendable

@@ -1,5 +1,5 @@
 -- What is kept of listeners stays the log's with each call.
-use Rattle.std.proofs.Common.{◌≡◌, ℕ, ◌+◌, ◌-◌, ◌<◌, ◌≤◌, Bool, true, false, not, cond, List, [], ◌∷◌, ◌++◌, length, map, count_by, Option, None, Some, refl, ap, sym, ◌∙◌, subst, arith, append-nil, length-append}
+use Rattle.std.proofs.Common.{◌≡◌, ℕ, ◌+◌, ◌<◌, ◌≤◌, Bool, true, false, not, cond, List, [], ◌∷◌, ◌++◌, length, map, count_by, Option, None, Some, refl, ap, sym, ◌∙◌, subst, arith, append-nil, length-append}
 use Rattle.std.specs.Prelude.{slice_get, unwrap_or, ◌||◌}
 use Rattle.std.specs.Option.{option_map, option_to_list}
 use Rattle.std.proofs.lemmas.List.{length-map}
@@ -15,6 +15,8 @@ use Rattle.sal_history.specs.declared.reply.Reply.TheVariants.{Refused}
 use Rattle.sal_history.specs.World.{Domain}
 use Rattle.sal_history.specs.History.{Answered, commits, history, reply_to}
 use Rattle.sal_history.specs.Listeners.{Listening, brings_to, is_removed, listener_at, listeners, listens, removes, removes_one, version}
+use Rattle.sal_history.specs.Numbered.{numbered}
+use Rattle.sal_history.proofs.Numbered.{numbered-more}
 use Rattle.sal_hub.specs.declared.listener.Listener.{Listener}
 use Rattle.sal_hub.specs.declared.listener.ListenerId.{ListenerId}
 use Rattle.sal_hub.specs.declared.listeners.Listeners.{Listeners}
@@ -23,7 +25,6 @@ use Rattle.sal_hub.specs.Listeners.{AreListeners, IsListened, listening_of, live
 use Rattle.sal_hub.specs.Tokens.{IsListener}
 use Rattle.sal_hub.proofs.Histories.{history-push, listed, now_of}
 use Rattle.sal_hub.proofs.Keeping.{or_false}
-use Rattle.sal_hub.proofs.Listed.{slice_get_more}
 use Rattle.sal_hub.proofs.Standing.{commits-more}
 
 -- ---- calls that neither make, remove nor answer a listener
@@ -93,8 +94,8 @@ module _ (world : List Domain) (log : List Entry) (e : Entry) where
 
 pub made_last : (known : HubHistory) (e : Entry) (n : ℕ) (l : Listening) → listener_at (history known.world known.log) n ≡ Some l → listener_at (history known.world (known.log ++ e ∷ [])) n ≡ Some l
 made_last known e n l was =
-    ap (λ (xs : List Listening). slice_get xs (n - 1)) (made-push known.world known.log e)
-    ∙ slice_get_more (listeners (history known.world known.log)) (option_to_list (listens e.client e.call (reply_to known.world (history known.world known.log) e.client e.call))) (n - 1) l was
+    ap (λ (xs : List Listening). numbered xs n) (made-push known.world known.log e)
+    ∙ numbered-more (listeners (history known.world known.log)) (option_to_list (listens e.client e.call (reply_to known.world (history known.world known.log) e.client e.call))) n l was
 
 pub named_last : (known : HubHistory) (e : Entry) (id : ListenerId) → IsListener known id → IsListener (more known e) id
 named_last known e id was = (was.0, last (listener_at (history known.world known.log) id.number) refl was.1)

@@ -7,18 +7,8 @@ use Rattle.std.proofs.lemmas.Option.{same_Some}
 use Rattle.sal_rows.specs.declared.outcome.Outcome.{Outcome}
 use Rattle.sal_history.specs.Submissions.{Sent, failing, failing_from, is_done, is_in, last_from}
 use Rattle.sal_hub.specs.Failures.{up_to}
-use Rattle.sal_rows.proofs.Applied.{or_assoc}
 
 -- ---- the last that passes a test
-
-pub last_from-push : {X : Type 0} (n : ℕ) (test : X → Bool) (xs : List X) (x : X) → last_from n test (xs ++ x ∷ []) ≡ option_or (if test x then Some (n + length xs) else None) (last_from n test xs)
-last_from-push n test [] x =
-    let here : n ≡ n + 0 = omega arith in
-    elim (test x) as (λ b. option_or None (if b then Some n else None) ≡ option_or (if b then Some (n + 0) else None) None) [ true ↦ ap Some here | false ↦ refl ]
-last_from-push n test (y ∷ xs) x =
-    let next : n + 1 + length xs ≡ n + suc (length xs) = omega arith in
-    ap (λ o. option_or o (if test y then Some n else None)) (last_from-push (n + 1) test xs x ∙ ap (λ k. option_or (if test x then Some k else None) (last_from (n + 1) test xs)) next)
-    ∙ or_assoc (if test x then Some (n + suc (length xs)) else None) (last_from (n + 1) test xs) (if test y then Some n else None)
 
 -- it is one of them
 pub last_from-within : {X : Type 0} (n : ℕ) (test : X → Bool) (xs : List X) (k : ℕ) → last_from n test xs ≡ Some k → (n ≤ k) × (k < n + length xs)

@@ -34,7 +34,7 @@ use Rattle.sal_hub.specs.PipelineView.{AllKept, IsSound, KeepVersions, PipelineV
 use Rattle.sal_hub.specs.Mounted.{AreMounted, Enters, IsJotted}
 use Rattle.sal_hub.proofs.Deciding.{versions-same}
 use Rattle.sal_hub.proofs.Histories.{mounting-push}
-use Rattle.sal_hub.proofs.Keeping.{none_more, or_false, pushed, unsent}
+use Rattle.sal_hub.proofs.Keeping.{as_stored, none_more, or_false, pushed, sound_over, unsent}
 use Rattle.sal_hub.proofs.Living.{is_device_low, live-mounted, live-same, live-unmounted, live_there, accepted_device}
 use Rattle.sal_hub.proofs.Served.{is_serving, serving_undecided, serving_unopened, serving_unraised, serving_unsent, serving_unspent}
 
@@ -85,37 +85,19 @@ pub line_with : (p : Pipeline) (i : ℕ) (b : Bool) (d d' : Stored) → i < leng
 line_with p i b d d' h is same = λ j. record { domains = shown-with p.domains.items i b d d' h is same j; gone = p.gone; waiting = p.waiting.items; outcomes = p.outcomes.items; failures = p.failures.items }
 
 -- nothing else of a domain changes
-at-with : (ds : List DomainView) (i : ℕ) (b : Bool) (n : ℕ) (e : DomainView) → slice_get (with_live ds i b) n ≡ Some e → (d : DomainView) × (slice_get ds n ≡ Some d) × (e ≡ record d { live = e.live })
+at-with : (ds : List DomainView) (i : ℕ) (b : Bool) (n : ℕ) (e : DomainView) → slice_get (with_live ds i b) n ≡ Some e → (d : DomainView) × (slice_get ds n ≡ Some d) × (e ≡ as_stored d e)
 at-with [] i b n e at = cc
 at-with (d ∷ ds) zero b zero e at = (
     let here : DomainView = record d { live = b } in
     let same : here ≡ e = same_Some here e at in
-    (d, refl, sym same ∙ ap (λ (x : DomainView). let y : DomainView = record d { live = x.live } in y) same)
+    (d, refl, sym same ∙ ap (as_stored d) same)
     )
 at-with (d ∷ ds) zero b (suc n) e at = (e, at, refl)
 at-with (d ∷ ds) (suc i) b zero e at = (e, at, refl)
 at-with (d ∷ ds) (suc i) b (suc n) e at = at-with ds i b n e at
 
 sound-with : (ss : List Sent) (queue : PipelineView) (i : ℕ) (b : Bool) → IsSound ss queue → IsSound ss (set_live queue i b)
-sound-with ss queue i b sound = record {
-  some = omega (arith, sound.some, length-with queue.domains i b);
-  within = sound.within;
-  behind = sound.behind;
-  domains = λ n e at. (
-      let (d, was, same) = at-with queue.domains i b n e at in
-      let had = sound.domains n d was in
-      record {
-        number = ap (λ (x : DomainView). x.number) same ∙ had.number;
-        commits = ap (λ (x : DomainView). x.ops) same ∙ had.commits;
-        chains = ap (λ (x : DomainView). x.chains) same ∙ had.chains;
-        receipts = ap (λ (x : DomainView). x.receipts) same ∙ had.receipts;
-      }
-      );
-  waiting = sound.waiting;
-  standing = λ k s at. let had = sound.standing k s at in record { domain = omega (arith, had.domain, length-with queue.domains i b); base = had.base; chain = had.chain; seen = had.seen };
-  numbers = sound.numbers;
-  failures = sound.failures;
-}
+sound-with ss queue i b = sound_over ss queue (with_live queue.domains i b) (length-with queue.domains i b) (at-with queue.domains i b)
 
 -- ---- what follows from an answer
 

@@ -14,7 +14,6 @@ use Rattle.sal_note.specs.Queues.{Asked}
 use Rattle.sal_history.specs.declared.call.Call.{Call}
 use Rattle.sal_history.specs.declared.call.Call.TheVariants.{Offer, Subscribe, TakeNotes}
 use Rattle.sal_history.specs.declared.call.Entry.{Entry}
-use Rattle.sal_history.specs.declared.reply.Reply.{Reply}
 use Rattle.sal_history.specs.World.{Domain}
 use Rattle.sal_history.specs.History.{Answered, entries_of, history, reply_to}
 use Rattle.sal_history.specs.Services.{by_notes, mount_call, note_asked, note_calls, note_fault, note_reply}
@@ -25,9 +24,9 @@ use Rattle.sal_hub.specs.Current.{IsKept, known_of}
 use Rattle.sal_hub.specs.Journals.{Noted, jotted, mark_at, taken_back}
 use Rattle.sal_hub.specs.HubHistory.{HubHistory, entry_of}
 use Rattle.sal_hub.specs.Notified.{AreNoted, left_by}
-use Rattle.sal_hub.proofs.Beginning.{made_now, quiet_kept}
+use Rattle.sal_hub.proofs.Beginning.{made_now}
 use Rattle.sal_hub.proofs.Histories.{length-history, note-push}
-use Rattle.sal_hub.proofs.Served.{is_serving, serving_undecided, serving_unraised, serving_unopened, serving_unsent, serving_unspent}
+use Rattle.sal_hub.proofs.Served.{is_serving, serving_kept}
 
 -- ---- the calls on notifications, as shared calls
 
@@ -96,11 +95,7 @@ module _ (j j' : Noted) (p : Pipeline) (kept : IsKept j p) (client : ℕ) (c : N
   calls = note_calls (history (known_of j p).world j.log)
 
   pub entered_kept : IsKept j' p
-  entered_kept =
-      let call : Call = shared c in
-      let r : Reply = reply_to old.world answered client (shared c) in
-      quiet_kept j j' p kept client (shared c) log (serving_unraised call (serving c) r) (unmounting c) (serving_unsent answered call (serving c) r) (serving_undecided old.world answered call (serving c)) (serving_unspent call (serving c) r)
-      (serving_unopened call (serving c) r) marks
+  entered_kept = serving_kept j j' p kept client (shared c) (serving c) (unmounting c) log marks
 
   longer : note_calls (history (known_of j p).world j'.log) ≡ note_calls (history (known_of j p).world j.log) ++ record { client = client; call = c } ∷ []
   longer =

@@ -19,7 +19,6 @@ use Rattle.sal_rpc.specs.Routing.{Asked, Made as Routed, Requested, made_of, mak
 use Rattle.sal_history.specs.declared.call.Call.{Call}
 use Rattle.sal_history.specs.declared.call.Call.TheVariants.{Answer, Collect, Invoke, NextCall, Provide, Withdraw}
 use Rattle.sal_history.specs.declared.call.Entry.{Entry}
-use Rattle.sal_history.specs.declared.reply.Reply.{Reply}
 use Rattle.sal_history.specs.World.{Domain}
 use Rattle.sal_history.specs.History.{Answered, entries_of, history, reply_to}
 use Rattle.sal_history.specs.Services.{by_router, mount_call, rpc_asked, rpc_calls, rpc_fault, rpc_of, rpc_reply}
@@ -31,10 +30,10 @@ use Rattle.sal_hub.specs.Journals.{Noted, jotted, mark_at, taken_back}
 use Rattle.sal_hub.specs.HubHistory.{HubHistory, entry_of, more}
 use Rattle.sal_hub.specs.Routed.{AreRouted, left_by, collect_reply, request_reply}
 use Rattle.sal_hub.specs.Tokens.{IsCall}
-use Rattle.sal_hub.proofs.Beginning.{made_now, quiet_kept}
+use Rattle.sal_hub.proofs.Beginning.{made_now}
 use Rattle.sal_hub.proofs.Histories.{listed, rpc-push}
 use Rattle.sal_hub.proofs.Listed.{slice_get_more, slice_get_seam}
-use Rattle.sal_hub.proofs.Served.{is_serving, serving_undecided, serving_unraised, serving_unopened, serving_unsent, serving_unspent}
+use Rattle.sal_hub.proofs.Served.{is_serving, serving_kept}
 
 -- ---- the calls on the router, as shared calls
 
@@ -99,11 +98,7 @@ module _ (j j' : Noted) (p : Pipeline) (kept : IsKept j p) (client : ℕ) (c : R
   calls = rpc_calls (history (known_of j p).world j.log)
 
   pub entered_kept : IsKept j' p
-  entered_kept =
-      let call : Call = shared c in
-      let r : Reply = reply_to old.world answered client (shared c) in
-      quiet_kept j j' p kept client (shared c) log (serving_unraised call (serving c) r) (unmounting c) (serving_unsent answered call (serving c) r) (serving_undecided old.world answered call (serving c)) (serving_unspent call (serving c) r)
-      (serving_unopened call (serving c) r) marks
+  entered_kept = serving_kept j j' p kept client (shared c) (serving c) (unmounting c) log marks
 
   longer : rpc_calls (history (known_of j p).world j'.log) ≡ rpc_calls (history (known_of j p).world j.log) ++ record { client = client; call = c } ∷ []
   longer =

@@ -15,16 +15,21 @@ use Rattle.sal_history.specs.declared.call.Call.TheVariants.{Answer, Begin, Canc
 use Rattle.sal_history.specs.declared.call.Entry.{Entry}
 use Rattle.sal_history.specs.declared.reply.Reply.{Reply}
 use Rattle.sal_history.specs.World.{Domain}
-use Rattle.sal_history.specs.History.{Answered, began_by, closes, decided_by, history, opened_chain, sent_by, spends}
+use Rattle.sal_history.specs.History.{Answered, began_by, closes, decided_by, history, opened_chain, reply_to, sent_by, spends}
 use Rattle.sal_history.specs.Services.{mount_call, note_call, note_calls, rpc_call, rpc_calls}
 use Rattle.sal_history.specs.Submissions.{Base}
 use Rattle.sal_history.specs.Versions.{upgraded}
+use Rattle.sal_hub.specs.declared.pipeline.Pipeline.{Pipeline}
 use Rattle.sal_hub.specs.declared.services.Services.{Services}
+use Rattle.sal_hub.specs.Current.{IsKept, answers}
 use Rattle.sal_hub.specs.HubHistory.{HubHistory, more}
+use Rattle.sal_hub.specs.Journals.{Noted, jotted, mark_at}
 use Rattle.sal_hub.specs.Mounted.{AreMounted}
 use Rattle.sal_hub.specs.Notified.{AreNoted}
+use Rattle.sal_hub.specs.PipelineView.{queue_of, world_in}
 use Rattle.sal_hub.specs.Routed.{AreRouted}
 use Rattle.sal_hub.specs.Services.{AreServed}
+use Rattle.sal_hub.proofs.Beginning.{quiet_kept}
 use Rattle.sal_hub.proofs.Histories.{mounting-quiet, note-push, rpc-push}
 use Rattle.sal_hub.proofs.Listened.{is_listening}
 
@@ -160,3 +165,12 @@ pub serving_unspent : (call : Call) → is_serving call ≡ true → (reply : Re
 serving_unspent (Submit at ops) e reply place = cc
 serving_unspent (Cancel at) e reply place = cc
 serving_unspent call e reply place = refl
+
+-- a call on the router or on notifications
+pub serving_kept : (j j' : Noted) (p : Pipeline) → IsKept j p → (client : ℕ) (call : Call) → is_serving call ≡ true → mount_call call ≡ None → j'.log ≡ jotted j.log client call → ((k : ℕ) → mark_at j'.marks k ≡ mark_at j.marks k) → IsKept j' p
+serving_kept j j' p kept client call on off log marks =
+    let world : List Domain = world_in (queue_of p).domains in
+    let answered : List Answered = answers j.log (queue_of p) in
+    let r : Reply = reply_to world answered client call in
+    quiet_kept j j' p kept client call log (serving_unraised call on r) off (serving_unsent answered call on r) (serving_undecided world answered call on) (serving_unspent call on r)
+    (serving_unopened call on r) marks

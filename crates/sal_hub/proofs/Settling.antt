@@ -12,9 +12,11 @@ use Rattle.sal_history.specs.declared.reply.Reply.{Reply}
 use Rattle.sal_history.specs.declared.reply.Reply.TheVariants.{Decided, Nothing, Settled}
 use Rattle.sal_history.specs.World.{Domain}
 use Rattle.sal_history.specs.History.{Answered, decide_front, decide_next, decided_by, entries_of, history, is_live, opened_chain, outcome, outcomes, pumped, reply_to, sent_by, sents, settled, spends}
+use Rattle.sal_history.specs.Numbered.{numbered}
 use Rattle.sal_history.specs.Services.{mount_call}
 use Rattle.sal_history.specs.Submissions.{Sent}
 use Rattle.sal_history.specs.Versions.{tables_now, upgraded}
+use Rattle.sal_history.proofs.Numbered.{numbered-at}
 use Rattle.sal_schema.specs.declared.table.SchemaTable.{SchemaTable}
 use Rattle.sal_hub.specs.declared.pipeline.Pipeline.{Pipeline}
 use Rattle.sal_hub.specs.declared.receipt.Receipt.{Receipt}
@@ -140,10 +142,12 @@ module _ (journal journal' : Noted) (p p' : Pipeline) (is : IsKept journal p) (c
       → Made (known_of journal p) (known_of journal' p') (record { client = client; number = entries_of journal.log client; call = Settle receipt.number }) (Settled receipt.domain o)
   settled_made o room given at =
       let (s, here, of_domain) = given_at (known_of journal p) receipt given in
+      let submission : numbered (sents (answers journal.log (queue_of p))) n ≡ Some s = numbered-at (sents (answers journal.log (queue_of p))) n s given.0 here in
+      let all : List Outcome = outcomes (answers journal.log (queue_of p)) ++ decided_by (world_in (queue_of p).domains) (answers journal.log (queue_of p)) (Settle n) in
       let outcome : slice_get (outcomes (answers journal.log (queue_of p)) ++ decided_by (world_in (queue_of p).domains) (answers journal.log (queue_of p)) (Settle n)) (n - 1) ≡ Some o =
       ap (λ (os : List Outcome). slice_get os (n - 1)) ((λ i. sym is.current.outcomes i ++ now_decided i) ∙ sym decided.outcomes) ∙ at in
       decided_made journal journal' p p' is client (Settle n) (n - length p.outcomes.items) log decided (Settled receipt.domain o) room
-      ((λ i. settled (here i) (outcome i)) ∙ ap (λ d. Settled d o) of_domain)
+      ((λ i. settled (submission i) (numbered-at all n o given.0 outcome i)) ∙ ap (λ d. Settled d o) of_domain)
 
 -- where nothing was decided, all is as it was
 pub unsettled_kept : (journal journal' : Noted) (p p' : Pipeline) → IsKept journal p → AllKept p'.domains.items → queue_of p' ≡ queue_of p → journal' ≡ journal → IsKept journal' p'

@@ -1,5 +1,5 @@
 -- The base of a transaction that was begun: a commit that its domain has.
-use Rattle.std.proofs.Common.{◌≡◌, ◌⊎◌, ℕ, zero, suc, ◌-◌, ◌<◌, ◌≤◌, Bool, true, false, not, List, [], ◌∷◌, ◌++◌, length, map, Option, None, Some, refl, ap, sym, ◌∙◌, subst, arith, append-nil, length-append, inl, inr, if◌then◌else◌, nat_eq}
+use Rattle.std.proofs.Common.{◌≡◌, ◌⊎◌, ℕ, zero, suc, ◌<◌, ◌≤◌, Bool, true, false, not, List, [], ◌∷◌, ◌++◌, length, map, Option, None, Some, refl, ap, sym, ◌∙◌, subst, arith, append-nil, length-append, inl, inr, if◌then◌else◌, nat_eq}
 use Rattle.std.specs.Prelude.{slice_get, option_and_then, unwrap_or}
 use Rattle.std.specs.Option.{option_map, option_or, option_to_list}
 use Rattle.std.specs.List.{fold}
@@ -14,6 +14,7 @@ use Rattle.sal_history.specs.declared.reply.Reply.{Reply}
 use Rattle.sal_history.specs.declared.reply.Reply.TheVariants.{Begun, Receipt, Refused}
 use Rattle.sal_history.specs.World.{Domain}
 use Rattle.sal_history.specs.History.{Answered, answer, base_on, began_at, began_by, chain_refusal, chained_base, commits, decided_by, domain_of, failed_by, fault_if, has_open, history, is_closed, is_live, newest_base, nowhere, outcomes, refused_or, reply_to, sent_by, sents, stands_on}
+use Rattle.sal_history.specs.Numbered.{numbered}
 use Rattle.sal_history.specs.Submissions.{Base, Sent, done, if_done}
 use Rattle.sal_hub.proofs.Histories.{now_of, outcomes-answer, sents-answer}
 use Rattle.sal_hub.proofs.Listed.{last_or_before}
@@ -97,9 +98,10 @@ module _ (world : List Domain) (some : 0 < length world) (answered : List Answer
   on_at chain None live each = newest_at (domain_of answered chain) (Some chain) live
   on_at chain (Some s) live each = each s refl
 
-  found_at : (n : Option ℕ) (s : Sent) → option_and_then (λ k. slice_get (sents answered) (k - 1)) n ≡ Some s → IsAt world answered s.base
+  found_at : (n : Option ℕ) (s : Sent) → option_and_then (λ k. numbered (sents answered) k) n ≡ Some s → IsAt world answered s.base
   found_at None s e = cc
-  found_at (Some k) s e = was.sent (k - 1) s e
+  found_at (Some zero) s e = cc
+  found_at (Some (suc i)) s e = was.sent i s e
 
   begun_now : (client : ℕ) (call : Call) (b : Base) → began_by world answered call (reply_to world answered client call) ≡ Some b → IsAt world answered b
   begun_now client (Begin domain mode) b =
@@ -111,7 +113,7 @@ module _ (world : List Domain) (some : 0 < length world) (answered : List Answer
       elim (chain_refusal world answered chain) as (λ o. chain_refusal world answered chain ≡ o → began_by world answered (ChainBegin chain mode) (refused_or o (Begun (chained_base world answered chain).commit (stands_on answered chain))) ≡ Some b → IsAt world answered b) [
         | None ↦ λ allowed e.
             subst (IsAt world answered) (same_Some (chained_base world answered chain) b e)
-            (on_at chain (option_and_then (λ k. slice_get (sents answered) (k - 1)) (stands_on answered chain)) (allowed_live world answered chain allowed) (found_at (stands_on answered chain)))
+            (on_at chain (option_and_then (λ k. numbered (sents answered) k) (stands_on answered chain)) (allowed_live world answered chain allowed) (found_at (stands_on answered chain)))
         | Some f ↦ λ allowed e. cc
       ] refl
   begun_now client call b = λ e. cc

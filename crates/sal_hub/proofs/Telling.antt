@@ -80,7 +80,7 @@ module _ (journal : Noted) (p : Pipeline) (is : IsKept journal p) where
         let count = count_is journal p is l.domain d h at in
         let since = (listened_is (known_of journal p) ls are n l low here).version in
         ap (λ b. if b then taken w done n else Refused (NoListener n)) (sym has_as ∙ some)
-        ∙ ap (λ (o : Option Listening). option_map_or (batch_of w done n) o (Refused (NoListener n))) (listener_is (known_of journal p) ls are n l here)
+        ∙ ap (λ (o : Option Listening). option_map_or (batch_of w done n) o (Refused (NoListener n))) (listener_is (known_of journal p) ls are n l low here)
         ∙ (λ i. Told l.domain (batch (has_own_row (sym of_domain.last i) l.path) (sym trees i) l.path (sym since i) (sym count i)))
 
 -- ---- the entry is the log's next
@@ -106,7 +106,7 @@ module _ (known : HubHistory) (ls ls' : Listeners) (are : AreListeners known ls'
   pub given_made : listener_at (history known.world known.log) id.number ≡ Some (record { client = ask.client; domain = ask.domain; store = ask.store; path = ask.path.now })
   given_made =
       let place : id.number - 1 ≡ length ls.list.items = omega (arith, number, long) in
-      listener_is known ls' are id.number (new_of ask version)
+      listener_is known ls' are id.number (new_of ask version) (omega (arith, number, long))
       (ap (λ n. slice_get ls'.list.items n) place ∙ ap (λ (xs : List Listener). slice_get xs (length ls.list.items)) adds.list ∙ slice_get_seam ls.list.items (new_of ask version) [])
 
   pub given_token : id.domain ≡ ask.domain → IsListener known id

@@ -45,7 +45,7 @@ use Rattle.sal_hub.specs.Upgrades.{IsReady, refusal_of, set_version, upgrades_of
 use Rattle.sal_hub.proofs.Beginning.{made_now, quiet_kept}
 use Rattle.sal_hub.proofs.Deciding.{world-at}
 use Rattle.sal_hub.proofs.Histories.{history-push, now_of}
-use Rattle.sal_hub.proofs.Keeping.{none_more, or_false, pushed_as, still_live, unsent}
+use Rattle.sal_hub.proofs.Keeping.{as_stored, none_more, or_false, pushed_as, sound_over, still_live, unsent}
 use Rattle.sal_hub.proofs.Serving.{shown_at, tip_is}
 use Rattle.sal_hub.proofs.Versioned.{version-present}
 
@@ -138,37 +138,19 @@ length-upgraded : (ds : List DomainView) (v : ℕ) → length (with_version ds v
 length-upgraded [] v = refl
 length-upgraded (d ∷ ds) v = refl
 
-at-upgraded : (ds : List DomainView) (v n : ℕ) (e : DomainView) → slice_get (with_version ds v) n ≡ Some e → (d : DomainView) × (slice_get ds n ≡ Some d) × (e ≡ record d { table = e.table; version = e.version; since = e.since })
+at-upgraded : (ds : List DomainView) (v n : ℕ) (e : DomainView) → slice_get (with_version ds v) n ≡ Some e → (d : DomainView) × (slice_get ds n ≡ Some d) × (e ≡ as_stored d e)
 at-upgraded [] v n e at = absurd (none-some e at)
 at-upgraded (d ∷ ds) v zero e at = (
   d,
   refl,
   (let here : DomainView = record d { table = world.version_from d.first d.upgrades v; version = v; since = length d.ops } in
       let same : here ≡ e = same_Some here e at in
-      sym same ∙ ap (λ (x : DomainView). let y : DomainView = record d { table = x.table; version = x.version; since = x.since } in y) same),
+      sym same ∙ ap (as_stored d) same),
 )
 at-upgraded (d ∷ ds) v (suc n) e at = (e, at, refl)
 
 sound-upgraded : (ss : List Sent) (queue : PipelineView) (v : ℕ) → IsSound ss queue → IsSound ss (set_version queue v)
-sound-upgraded ss queue v sound = record {
-  some = omega (arith, sound.some, length-upgraded queue.domains v);
-  within = sound.within;
-  behind = sound.behind;
-  domains = λ n e at. (
-      let (d, was, same) = at-upgraded queue.domains v n e at in
-      let had = sound.domains n d was in
-      record {
-        number = ap (λ (x : DomainView). x.number) same ∙ had.number;
-        commits = ap (λ (x : DomainView). x.ops) same ∙ had.commits;
-        chains = ap (λ (x : DomainView). x.chains) same ∙ had.chains;
-        receipts = ap (λ (x : DomainView). x.receipts) same ∙ had.receipts;
-      }
-      );
-  waiting = sound.waiting;
-  standing = λ k s at. let had = sound.standing k s at in record { domain = omega (arith, had.domain, length-upgraded queue.domains v); base = had.base; chain = had.chain; seen = had.seen };
-  numbers = sound.numbers;
-  failures = sound.failures;
-}
+sound-upgraded ss queue v = sound_over ss queue (with_version queue.domains v) (length-upgraded queue.domains v) (at-upgraded queue.domains v)
 
 -- ---- the call
 

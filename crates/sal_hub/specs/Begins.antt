@@ -1,4 +1,4 @@
--- What the entries that begin transactions asked for, and were answered.
+-- The entries that begin transactions, and their replies.
 use Rattle.std.specs.Prelude.{◌≡◌, ◌≢◌, ℕ, ◌<◌, List, Option, None, Some, option_and_then, slice_get}
 use Rattle.sal_rows.specs.declared.outcome.Mode.{Mode}
 use Rattle.sal_rows.specs.declared.outcome.Mode.TheVariants.{Ro}
@@ -9,31 +9,31 @@ use Rattle.sal_history.specs.declared.reply.Reply.TheVariants.{Begun}
 use Rattle.sal_history.specs.History.{Answered, began_at}
 use Rattle.sal_history.specs.Submissions.{Sent}
 
--- the mode that a call asks for
+-- the mode of a call
 abbrev pub mode_by : Call → Option Mode
 mode_by (Begin domain mode) = Some mode
 mode_by (ChainBegin chain mode) = Some mode
 mode_by call = None
 
--- the pending receipt, if any, that is the base of the transaction of a reply
+-- the pending receipt, if any, that the transaction of a reply follows
 abbrev pub on_by : Reply → Option (Option ℕ)
 on_by (Begun commit on) = Some on
 on_by reply = None
 
--- the mode that the entry at the place asked for
+-- the mode of the entry at the index
 abbrev pub mode_at : List Answered → ℕ → Option Mode
 mode_at answered place = option_and_then (λ a. mode_by a.entry.call) (slice_get answered place)
 
--- the pending receipt, if any, that is the base of the transaction that the entry at the place began
+-- the pending receipt, if any, that the transaction that the entry at the index began follows
 abbrev pub on_at : List Answered → ℕ → Option (Option ℕ)
 on_at answered place = option_and_then (λ a. on_by a.reply) (slice_get answered place)
 
--- the place of the entry that began the transaction, as a call that submits it names it
+-- the index of the entry that began the transaction, as a call that submits it names it
 abbrev pub place_by : Call → Option ℕ
 place_by (Submit place ops) = Some place
 place_by call = None
 
--- The call after this many entries submits the transaction that the entry at a place before it began in a mode that writes; the submission has
+-- The call after this many entries submits the transaction that the entry at an index before it began in a mode that writes; the submission has
 -- the base of that transaction.
 pub record IsOfWriter (answered : List Answered) (k : ℕ) (call : Call) (t : Sent) : Type 0 where
   pub place : ℕ

@@ -1,4 +1,4 @@
--- What a hub keeps of its chains is what its log gives.
+-- The hub's records of chains are those of its log.
 use Rattle.std.specs.Prelude.{◌≡◌, ℕ, ◌-◌, ◌<◌, ◌∷◌, ◌++◌, [], false, Bool, List, Option, None, Some, if◌then◌else◌, length, nat_lt, not, option_and_then, slice_get, vec_capacity, vec_len}
 use Rattle.std.specs.Option.{option_map_or}
 use Rattle.sal_rows.specs.declared.outcome.Mode.{Mode}
@@ -22,7 +22,7 @@ pub record AreEven (chains : Chains) : Type 0 where
   pub begun : length chains.begun.items ≡ length chains.domains.items
   pub sent : length chains.sent.items ≡ length chains.domains.items
 
--- where it is of a chain, it is in the domain of that chain
+-- if it has a chain, it is in the domain of that chain
 abbrev pub IsInPlace : List Answered → Base → Type 0
 IsInPlace answered base = (id : ℕ) → base.chain ≡ Some id → slice_get (chain_domains answered) (id - 1) ≡ Some base.domain
 
@@ -31,7 +31,7 @@ pub record AreInPlace (answered : List Answered) : Type 0 where
   pub begun : (place : ℕ) (base : Base) → began_at answered place ≡ Some base → IsInPlace answered base
   pub sent : (i : ℕ) (s : Sent) → slice_get (sents answered) i ≡ Some s → IsInPlace answered s.base
 
--- their domains, whether they are closed, and the last that was begun and submitted in each
+-- their domains, whether they are closed, and the last transaction that began and was submitted in each
 pub record AreChains (known : HubHistory) (chains : Chains) : Type 0 where
   pub even : AreEven chains
   pub domains : chains.domains.items ≡ chain_domains (history known.world known.log)
@@ -45,7 +45,7 @@ abbrev pub call_of : ℕ → Option ℕ → Mode → Call
 call_of domain None mode = Begin domain mode
 call_of domain (Some chain) mode = ChainBegin chain mode
 
--- ---- what calls do
+-- ---- effects of calls
 
 pub record AreSame (old new : Chains) : Type 0 where
   pub domains : new.domains.items ≡ old.domains.items
@@ -67,15 +67,15 @@ pub record Adds (old : Chains) (domain : ℕ) (new : Chains) : Type 0 where
   pub begun : new.begun.items ≡ old.begun.items ++ None ∷ []
   pub sent : new.sent.items ≡ old.sent.items ++ None ∷ []
 
--- the transaction that began at the place is open, if any did
+-- the transaction that began at the index is open, if any did
 abbrev pub is_open : List Bool → Option ℕ → Bool
 is_open marks begun = option_map_or (λ place. not (mark_at marks place)) begun false
 
--- the receipt, where it is not among those decided
+-- the receipt, unless it is decided
 abbrev pub pending_of : ℕ → Option ℕ → Option ℕ
 pending_of decided sent = option_and_then (λ n. if nat_lt decided n then Some n else None) sent
 
--- where the next transaction of a chain begins: on its pending submission, or at the newest commit
+-- the start of the next transaction of a chain: it follows its pending submission, or is at the newest commit
 abbrev pub IsFooting : Option ℕ → Pipeline → Domain → Footing → Type 0
 IsFooting None p d footing = IsNewest d footing
 IsFooting (Some n) p d footing = (sub : Submission) × (slice_get p.waiting.items (n - 1 - p.gone) ≡ Some sub) × IsOn sub n footing

@@ -3,7 +3,7 @@ use Rattle.std.specs.Prelude.{ℕ, ◌+◌, List, [], ◌∷◌, ◌++◌, if◌
 use Rattle.sal_rows.specs.declared.outcome.Outcome.{Outcome}
 use Rattle.sal_history.specs.Submissions.{Sent, if_done}
 
--- counted from the receipt r on, those of a domain's submissions that were decided as done
+-- counted from the receipt r on, those of a domain's submissions with the outcome done
 abbrev pub receipts_from : ℕ → ℕ → List Sent → List Outcome → List ℕ
 receipts_from r domain [] os = []
 receipts_from r domain (s ∷ ss) [] = []

@@ -1,4 +1,4 @@
--- What a hub keeps is what its log gives.
+-- The hub's state is that of its log.
 use Rattle.std.specs.Prelude.{◌≡◌, ℕ, ◌<◌, Bool, List, length, if◌then◌else◌, nat_eq}
 use Rattle.sal_history.specs.declared.call.Entry.{Entry}
 use Rattle.sal_history.specs.History.{Answered, chain_domains, history, is_live, is_spent, outcomes, sents}
@@ -11,7 +11,7 @@ use Rattle.sal_hub.specs.Journals.{Noted, mark_at}
 use Rattle.sal_hub.specs.HubHistory.{HubHistory}
 use Rattle.sal_hub.specs.PipelineView.{AllKept, IsSound, PipelineView, is_live_in, queue_of, table_in, version_of, world_in}
 
--- the answered log
+-- the log with its replies
 abbrev pub answers : List Entry → PipelineView → List Answered
 answers log queue = history (world_in queue.domains) log
 
@@ -21,7 +21,7 @@ number_of version domain = if nat_eq domain 0 then version else 0
 
 -- The submissions, the outcomes, the commits, the marks, the chains that failed and the domains that are live are the log's; the
 -- operations of each submission are lawful over the base of its transaction, which began in a mode that writes, and the opening trees of each
--- domain are closed. Each domain has the present version of its schema, and domain 0 alone has more than one.
+-- domain are closed. Each domain has the present version of its schema, and only domain 0 has more than one.
 pub record IsCurrent (log : List Entry) (noted : List Bool) (queue : PipelineView) : Type 0 where
   pub sound : IsSound (sents (answers log queue)) queue
   pub outcomes : queue.outcomes ≡ outcomes (answers log queue)
@@ -38,9 +38,9 @@ pub record IsCurrent (log : List Entry) (noted : List Bool) (queue : PipelineVie
 pub record IsKept (journal : Noted) (p : Pipeline) : Type 0 where
   pub kept : AllKept p.domains.items
   pub current : IsCurrent journal.log journal.marks (queue_of p)
-  -- each submission that was decided was let go
+  -- each decided submission was dropped
   pub let_go : p.gone ≡ length p.outcomes.items
 
--- what a contract sees
+-- how a contract sees it
 abbrev pub known_of : Noted → Pipeline → HubHistory
 known_of journal p = record { world = world_in (queue_of p).domains; log = journal.log }

@@ -1,4 +1,4 @@
--- What a hub keeps of its domains.
+-- The hub's domains.
 use Rattle.std.specs.Prelude.{◌≡◌, ℕ, ◌<◌, List, length, slice_index_or}
 use Rattle.sal_graft.specs.Kept.{AreKept, chains_of, opening_in, ops_of}
 use Rattle.sal_commit.specs.declared.domain.Domain.{Domain}

@@ -40,12 +40,12 @@ next_world rules known = next_from rules known 0 (length known.world)
 abbrev pub next_hub : Rules → HubHistory → HubHistory
 next_hub rules known = record { world = next_world rules known; log = [] }
 
--- Whatever calls a world gets, its trees at commit 0 are the newest ones that the hub had.
+-- For any calls, the trees of such a world at commit 0 are the newest ones of the hub before.
 abbrev pub OpensAtTheNewest : HubHistory → List Domain → Type 0
 OpensAtTheNewest known world =
     (n : ℕ) (s : Store) (log : List Entry) → n < length known.world → trees_at world (history world log) n s 0 ≡ newest_tree known.world known.log n s
 
--- ---- as a pipeline has it
+-- ---- in the code's form
 
 -- the domain in the next epoch
 abbrev pub begun_view : Rules → DomainView → DomainView

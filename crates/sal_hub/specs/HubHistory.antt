@@ -1,4 +1,4 @@
--- What a contract sees of a hub: its domains with their opening trees, and the log of its calls.
+-- How a contract sees a hub: its domains with their opening trees, and the log of its calls.
 use Rattle.std.specs.Prelude.{ℕ, List, [], ◌∷◌, ◌++◌}
 use Rattle.sal_history.specs.World.{Domain}
 use Rattle.sal_history.specs.declared.call.Call.{Call}
@@ -9,7 +9,7 @@ pub record HubHistory : Type 0 where
   pub world : List Domain
   pub log : List Entry
 
--- with one entry more
+-- with one more entry
 abbrev pub more : HubHistory → Entry → HubHistory
 more known e = record { world = known.world; log = known.log ++ e ∷ [] }
 

@@ -1,4 +1,4 @@
--- What a hub keeps of its listeners is what its log gives.
+-- The hub's records of listeners are those of its log.
 use Rattle.std.specs.Prelude.{◌≡◌, ℕ, ◌+◌, ◌-◌, ◌<◌, ◌≤◌, Bool, true, false, not, ◌&&◌, List, [], ◌∷◌, ◌++◌, Option, Some, length, map, set, count_by, nat_eq, nat_le, slice_get}
 use Rattle.std.specs.Option.{option_map_or, option_or}
 use Rattle.sal_types.specs.declared.value.Step.{Step}
@@ -23,7 +23,7 @@ use Rattle.sal_hub.specs.declared.listener_calls.Ask.{Ask}
 use Rattle.sal_hub.specs.declared.listeners.Listeners.{Listeners}
 use Rattle.sal_hub.specs.HubHistory.{HubHistory}
 
--- as the log has it
+-- in the log's form
 abbrev pub listening_of : Listener → Listening
 listening_of l = record { client = l.client; domain = l.domain; store = l.store; path = l.path }
 
@@ -38,8 +38,8 @@ pub record IsListened (known : HubHistory) (id : ℕ) (l : Listener) : Type 0 wh
 abbrev pub live_in : List Listener → ℕ
 live_in ls = count_by (λ (l : Listener). l.live) ls
 
--- Those that were made, each with what the log gives of it, and how many are live: together with those that were removed
--- they are all that were made. None is removed that was not made.
+-- The listeners that were made, each with its record from the log, and how many are live: these and the removed ones
+-- are all that were made. Only a listener that was made is removed.
 pub record AreListeners (known : HubHistory) (ls : Listeners) : Type 0 where
   pub made : map listening_of ls.list.items ≡ listeners (history known.world known.log)
   pub each : (i : ℕ) (l : Listener) → slice_get ls.list.items i ≡ Some l → IsListened known (i + 1) l
@@ -47,21 +47,21 @@ pub record AreListeners (known : HubHistory) (ls : Listeners) : Type 0 where
   pub counted : ls.live ≡ live_in ls.list.items
   pub all : ls.live + count_by (λ a. removes_one a.entry.call a.reply) (history known.world known.log) ≡ length (listeners (history known.world known.log))
 
--- the answer to a listen at the path of the domain
+-- the reply to a listen at the path of the domain
 abbrev pub listener_reply : ℕ → List Step → ListenerId × Opened → Reply
 listener_reply domain path given = Made given.0.number domain path given.1
 
--- the listener that was made of this number is this one
+-- this is the listener with this number
 abbrev pub IsMade : HubHistory → ListenerId → Listening → Type 0
 IsMade known id l = listener_at (history known.world known.log) id.number ≡ Some l
 
--- ---- what calls do
+-- ---- effects of calls
 
--- what is kept of a new one, which has its opening
+-- the record of a new one, at its opening
 abbrev pub new_of : Ask → ℕ → Listener
 new_of ask version = record { client = ask.client; domain = ask.domain; store = ask.store; path = ask.path.now; version = version; live = true }
 
--- the call that asks for it
+-- its call
 abbrev pub call_of : Ask → Call
 call_of ask = Listen ask.domain ask.store ask.path.now
 
@@ -69,7 +69,7 @@ call_of ask = Listen ask.domain ask.store ask.path.now
 abbrev pub opened_in : Domain → Ask → Opened
 opened_in d ask = opened (trees_of d.commits.items ask.store) ask.path.now (length d.commits.items - 1)
 
--- what the listener has not taken of the domain; whether its path has a row of its own is decided by the last version
+-- the batch of the listener in the domain; the last version decides whether its path has its own row
 abbrev pub batch_in : Domain → Listener → Batch
 batch_in d l = batch (has_own_row (last_in d) l.path) (trees_of d.commits.items l.store) l.path l.version (length d.commits.items - 1)
 
@@ -77,11 +77,11 @@ batch_in d l = batch (has_own_row (last_in d) l.path) (trees_of d.commits.items 
 abbrev pub IsBatchFor : List Domain → List Listener → ℕ → Batch → Type 0
 IsBatchFor ds ls index b = (d : Domain) (l : Listener) → slice_get ls index ≡ Some l → slice_get ds l.domain ≡ Some d → b ≡ batch_in d l
 
--- why a domain, which is live or not, gets no further listener if this many are live
+-- why the domain, live or not, gets no further listener if this many are live
 abbrev pub refusal_by : Bool → ℕ → ℕ → Option CallFault
 refusal_by live domain count = option_or (fault_if (not live) (NoDomain domain)) (fault_if (nat_le 256 count) TooManyListeners)
 
--- the client has the listener at the index, and it is live
+-- the client has the listener at the index, and the listener is live
 abbrev pub has_in : List Listener → ℕ → ℕ → Bool
 has_in ls client index = option_map_or (λ (l : Listener). nat_eq l.client client && l.live) (slice_get ls index) false
 

@@ -1,4 +1,4 @@
--- The marks that were left in a log.
+-- The marks that were set in a log.
 use Rattle.std.specs.Prelude.{◌≡◌, ℕ, Bool, List, is_some}
 use Rattle.std.specs.List.{list_any}
 use Rattle.std.specs.Ordering.{nat_cmp}
@@ -10,7 +10,7 @@ use Rattle.sal_history.specs.History.{marks}
 abbrev pub is_key : BTreeMap ℕ (Unit {0}) → ℕ → Bool
 is_key map mark = is_some (get nat_cmp map mark)
 
--- an entry left the mark
+-- an entry set the mark
 abbrev pub has_mark : List Entry → ℕ → Bool
 has_mark log mark = list_any (λ e. marks e.call mark) log
 

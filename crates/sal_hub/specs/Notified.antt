@@ -1,4 +1,4 @@
--- What a hub keeps of notifications is what its log gives, and what a call on them leaves.
+-- The hub's notifications are those of its log, and the effect of a call on them.
 use Rattle.sal_note.specs.declared.call.NoteFault.{NoteFault}
 use Rattle.sal_note.specs.declared.call.NoteFault.TheVariants.{NoMemory, NoteRejected}
 use Rattle.sal_note.specs.Boxes.{Boxes, IsOf}
@@ -11,9 +11,9 @@ use Rattle.sal_hub.specs.HubHistory.{HubHistory}
 abbrev pub AreNoted : HubHistory → Boxes → Type 0
 AreNoted known notes = IsOf (note_calls (history known.world known.log)) notes
 
--- ---- what calls do
+-- ---- effects of calls
 
--- the journal after a call that failed: it has its entry, unless memory was wanting
+-- the journal after a call that failed: it has its entry, unless memory ran out
 abbrev pub left_by : NoteFault → Noted → Noted
 left_by NoMemory j = taken_back j
 left_by (NoteRejected subscriber) j = j

@@ -1,5 +1,5 @@
--- Which opening trees are refused, and why: the first device counts, and of a device state data in its configuration, then
--- a breach of its configuration, then one of its operational tree.
+-- Which opening trees are refused, and why: the first device is checked first, and of a device state data in its configuration, then
+-- a breach in its configuration, then one in its operational tree.
 use Rattle.std.specs.Prelude.{◌≡◌, ◌⊎◌, ℕ, ◌+◌, IsTrue, List, [], ◌∷◌, find, map, Option, None, Some}
 use Rattle.std.specs.List.{AllByRecursion}
 use Rattle.std.specs.Option.{option_map, option_or}
@@ -19,7 +19,7 @@ use Rattle.sal_commit.specs.declared.fault.DomainFault.TheVariants.{Broken as Br
 use Rattle.sal_hub.specs.declared.opening.OpenFault.{OpenFault}
 use Rattle.sal_hub.specs.declared.opening.OpenFault.TheVariants.{NotConfig, Broken, NoMemory}
 
--- the world that devices make under version rules
+-- the world of devices under version rules
 abbrev pub domain_of : Rules → Device → Domain
 domain_of rules device = record { table = device.schema.value; upgrades = tables_of device.upgrades.items; opening = device.opening; rules = rules }
 
@@ -50,7 +50,7 @@ numbered n Full = NoMemory
 abbrev pub opening_fault : ℕ → Domain → Option OpenFault
 opening_fault n d = option_or (option_map (NotConfig n) (state_row d.table d.opening.config)) (option_or (broken n d Config) (broken n d Oper))
 
--- why those of these devices are, numbered from n on
+-- why those of these devices are refused, numbered from n on
 abbrev pub fault_from : ℕ → List Domain → Option OpenFault
 fault_from n [] = None
 fault_from n (d ∷ ds) = option_or (opening_fault n d) (fault_from (n + 1) ds)

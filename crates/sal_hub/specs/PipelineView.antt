@@ -1,4 +1,4 @@
--- What a hub keeps beside its log: the domains with their commits, the submissions that were not let go, the outcomes, and which
+-- The hub's state in addition to its log: the domains with their commits, the submissions that were not dropped, the outcomes, and which
 -- chains failed.
 use Rattle.std.specs.Prelude.{◌≡◌, ℕ, zero, suc, ◌+◌, ◌-◌, ◌<◌, ◌≤◌, Bool, List, [], ◌∷◌, ◌++◌, false, drop, length, map, take, Option, Some, IfSome, All, slice_get}
 use Rattle.std.specs.Option.{option_map_or}
@@ -23,7 +23,7 @@ use Rattle.sal_hub.specs.declared.pipeline.Pipeline.{Pipeline}
 use Rattle.sal_hub.specs.CommitReceipts.{commit_receipts}
 use Rattle.sal_hub.specs.Failures.{IsWithin, cut_failures, noted_in}
 
--- ---- what a contract sees
+-- ---- how a contract sees it
 
 -- a domain, by its version rules, its opening trees, and the operations, the chains and the receipts of its commits
 pub record DomainView : Type 0 where
@@ -44,12 +44,12 @@ pub record DomainView : Type 0 where
 
 pub record PipelineView : Type 0 where
   pub domains : List DomainView
-  -- how many submissions were let go, those of the first receipts
+  -- the number of dropped submissions, those of the first receipts
   pub gone : ℕ
-  -- those after
+  -- those after them
   pub waiting : List Submission
   pub outcomes : List Outcome
-  -- for each chain the receipt by which it failed
+  -- for each chain the receipt at which it failed
   pub failures : List (Option ℕ)
 
 abbrev pub shown : Domain → DomainView
@@ -80,7 +80,7 @@ is_live_in domains n = option_map_or (λ (d : DomainView). d.live) (slice_get do
 abbrev pub table_in : List DomainView → ℕ → SchemaTable
 table_in domains n = option_map_or (λ (d : DomainView). d.table) (slice_get domains n) world.no_table
 
--- and its number
+-- its number
 abbrev pub version_of : List DomainView → ℕ → ℕ
 version_of domains n = option_map_or (λ (d : DomainView). d.version) (slice_get domains n) 0
 
@@ -89,7 +89,7 @@ pub record KeepVersions (old new : List DomainView) : Type 0 where
   pub tables : (n : ℕ) → table_in new n ≡ table_in old n
   pub versions : (n : ℕ) → version_of new n ≡ version_of old n
 
--- ---- as the log's definitions have it
+-- ---- in the form of the log's definitions
 
 abbrev pub opened_as : DomainView → world.Domain
 opened_as d = record { table = d.first; upgrades = d.upgrades; opening = record { config = d.opening Config; oper = d.opening Oper }; rules = d.rules }
@@ -112,7 +112,7 @@ chains_in ss queue n = done_chains n ss queue.outcomes
 abbrev pub receipts_in : List Sent → PipelineView → ℕ → List ℕ
 receipts_in ss queue n = commit_receipts n ss queue.outcomes
 
--- ---- what holds of it, by all submissions
+-- ---- invariants, from all submissions
 
 -- a domain has its number, and the commits that the outcomes give, with their chains and receipts
 pub record IsStored (ss : List Sent) (queue : PipelineView) (n : ℕ) (d : DomainView) : Type 0 where
@@ -121,19 +121,19 @@ pub record IsStored (ss : List Sent) (queue : PipelineView) (n : ℕ) (d : Domai
   pub chains : d.chains ≡ chains_in ss queue n
   pub receipts : d.receipts ≡ receipts_in ss queue n
 
--- the rows of its operations lie below their paths, and its view, if it was made, is its base after them
+-- the rows of its operations are at or below their paths, and its view, if it was made, is its base with them applied
 pub record CanBeSeen (s : Submission) : Type 0 where
   pub below : LieBelow s.changes
   pub view : IfSome s.view (Shows s.base s.changes)
 
--- The base of a submission is a commit of its domain, and its chain is one that was opened; its base after its operations can be seen.
+-- The base of a submission is a commit of its domain, and its chain is one that was opened; its view can be made.
 pub record Stands (ss : List Sent) (queue : PipelineView) (s : Submission) : Type 0 where
   pub domain : s.domain < length queue.domains
   pub base : s.base_commit ≤ length (commits_in ss queue s.domain)
   pub chain : IsWithin (length queue.failures) s.chain
   pub seen : CanBeSeen s
 
--- only what is decided was let go, and the rest is kept
+-- only decided submissions were dropped, and the others are kept
 pub record IsSound (ss : List Sent) (queue : PipelineView) : Type 0 where
   pub some : 1 ≤ length queue.domains
   pub within : length queue.outcomes ≤ length ss
@@ -144,7 +144,7 @@ pub record IsSound (ss : List Sent) (queue : PipelineView) : Type 0 where
   pub numbers : (i : ℕ) (s : Submission) → slice_get queue.waiting i ≡ Some s → s.receipt ≡ queue.gone + i + 1
   pub failures : (chain : ℕ) → noted_in queue.failures chain ≡ failing (Some chain) ss queue.outcomes
 
--- what was let go is not seen: there are submissions by which it holds
+-- the dropped submissions are not visible: some submissions exist for which it holds
 abbrev pub HasSents : PipelineView → Type 0
 HasSents queue = (ss : List Sent) × IsSound ss queue
 
@@ -152,11 +152,11 @@ HasSents queue = (ss : List Sent) × IsSound ss queue
 abbrev pub AllKept : List Domain → Type 0
 AllKept ds = All (λ (d : Domain). AreKept d.commits.items) ds
 
--- so many commits reach to the last upgrade of each domain
+-- this many commits reach the last upgrade of each domain
 abbrev pub Reach : List DomainView → List ℕ → Type 0
 Reach ds counts = (n k : ℕ) (d : DomainView) → slice_get ds n ≡ Some d → slice_get counts n ≡ Some k → d.since ≤ k
 
--- ---- what calls do
+-- ---- effects of calls
 
 -- the domain of this number is live or not
 abbrev pub with_live : List DomainView → ℕ → Bool → List DomainView
@@ -167,15 +167,15 @@ with_live (d ∷ ds) (suc n) live = d ∷ with_live ds n live
 abbrev pub set_live : PipelineView → ℕ → Bool → PipelineView
 set_live queue n live = record { domains = with_live queue.domains n live; gone = queue.gone; waiting = queue.waiting; outcomes = queue.outcomes; failures = queue.failures }
 
--- what is decided is let go
+-- decided submissions are dropped
 abbrev pub shorter : PipelineView → PipelineView
 shorter queue = record { domains = queue.domains; gone = length queue.outcomes; waiting = drop (length queue.outcomes - queue.gone) queue.waiting; outcomes = queue.outcomes; failures = queue.failures }
 
--- the list has grown at its end, if at all
+-- the list has the old one as a prefix
 abbrev pub Grows : {X : Type 0} → List X → List X → Type 0
 Grows {X} old new = (more : List X) × (new ≡ old ++ more)
 
--- each domain is as it was, but for commits after those that it had
+-- each domain is unchanged, except for commits after the earlier ones
 abbrev pub HaveGrown : List DomainView → List DomainView → Type 0
 HaveGrown [] [] = Unit {0}
 HaveGrown [] (e ∷ es) = ⊥
@@ -190,13 +190,13 @@ pub record HasGrown (old new : PipelineView) : Type 0 where
   pub outcomes : Grows old.outcomes new.outcomes
   pub failures : cut_failures (length old.outcomes) new.failures ≡ old.failures
 
--- the domains with so many of their commits after the opening
+-- the domains with this many of their commits after the opening
 abbrev pub cut_all : List DomainView → List ℕ → List DomainView
 cut_all [] ks = []
 cut_all (d ∷ ds) [] = d ∷ ds
 cut_all (d ∷ ds) (k ∷ ks) = record d { ops = take k d.ops; chains = take k d.chains; receipts = take (k + 1) d.receipts } ∷ cut_all ds ks
 
--- how many commits each domain has after its opening
+-- the number of commits of each domain after its opening
 abbrev pub counts_of : List DomainView → List ℕ
 counts_of ds = map (λ (d : DomainView). length d.ops) ds
 
@@ -209,6 +209,6 @@ pub record AreDecided (ss : List Sent) (old : PipelineView) (n : ℕ) (new : Pip
   pub outcomes : new.outcomes ≡ old.outcomes ++ decide_next (world_in old.domains) (table_in old.domains) (is_live_in old.domains) ss old.outcomes n
   pub chains : length new.failures ≡ length old.failures
 
--- the same by any submissions by which it held
+-- the same for any submissions for which it held
 abbrev pub Decides : PipelineView → ℕ → PipelineView → Type 0
 Decides old n new = (ss : List Sent) → IsSound ss old → AreDecided ss old n new

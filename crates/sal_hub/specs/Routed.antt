@@ -1,4 +1,4 @@
--- What a hub keeps of RPCs is what its log gives, and what a call on the router leaves.
+-- The hub's RPCs are those of its log, and the effect of a call on the router.
 use Rattle.std.specs.Prelude.{ℕ, List, Option, None, Some}
 use Rattle.sal_types.specs.declared.row.Row.{Row}
 use Rattle.sal_rpc.specs.declared.call.Request.{Request as Requested}
@@ -28,9 +28,9 @@ abbrev pub collect_reply : ℕ → Option (List Row) → Reply
 collect_reply rpc None = Nothing
 collect_reply rpc (Some rows) = Output rpc rows
 
--- ---- what calls do
+-- ---- effects of calls
 
--- the journal after a call that failed: it has its entry, unless memory was wanting
+-- the journal after a call that failed: it has its entry, unless memory ran out
 abbrev pub left_by : RpcFault → Noted → Noted
 left_by NoMemory j = taken_back j
 left_by fault j = j

@@ -1,4 +1,4 @@
--- Whether a mark was seen, and what a pump decided, as replies.
+-- The results of a look for a mark and of a pump, as replies.
 use Rattle.std.specs.Prelude.{◌≡◌, ℕ, Option, None, Some}
 use Rattle.sal_rows.specs.declared.outcome.Outcome.{Outcome}
 use Rattle.sal_history.specs.declared.reply.Reply.{Reply}

@@ -1,4 +1,4 @@
--- What the transactions of a log that were done read and write, if they are played one after another in the order of their commits.
+-- The reads and writes of the done transactions of a log, if they are applied one after another in the order of their commits.
 use Rattle.std.specs.Prelude.{◌≡◌, ◌-◌, ◌++◌, ℕ, List, [], Some, slice_get}
 use Rattle.sal_types.specs.declared.row.Row.{Row}
 use Rattle.sal_types.specs.declared.value.Step.{Step}
@@ -25,11 +25,11 @@ abbrev pub just_before : List Domain → List Answered → Sent → ℕ → Stor
 just_before world answered t commit s = trees_at world answered t.base.domain s (commit - 1)
 
 pub record AreSerialised (world : List Domain) (answered : List Answered) : Type 0 where
-  -- they leave the trees of the log
+  -- they give the trees of the log
   pub log : IsSerialisable world answered
-  -- each reads what it read in the log, as far as its reads are among its operations
+  -- each reads what it read in the log, for the reads that are among its operations
   pub reads : (domain : ℕ) → AreSerial (λ t. Unit {0}) (opening_of world domain) (done domain (sents answered) (outcomes answered))
-  -- so it read what it would have read just before its commit
+  -- so its reads have the same results just before its commit
   pub receipt : (i : ℕ) (t : Sent) (commit : ℕ) → IsDone answered i t commit → ReadsAlike (just_before world answered t commit) t
   -- in mode `Checked` each single read is among its operations: one after the operations `ops`, and before `more`
   pub read : (i : ℕ) (t : Sent) (commit : ℕ) (s : Store) (path : List Step) (ops more : List Op) → IsDone answered i t commit → t.ops ≡ recorded Checked s path ops ++ more

@@ -1,4 +1,4 @@
--- What a hub keeps of its services is what its log gives.
+-- The hub's services are those of its log.
 use Rattle.sal_hub.specs.declared.services.Services.{Services}
 use Rattle.sal_hub.specs.HubHistory.{HubHistory}
 use Rattle.sal_hub.specs.Mounted.{AreMounted}

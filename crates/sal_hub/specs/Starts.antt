@@ -1,4 +1,4 @@
--- Where a transaction begins, and the transaction that begins there.
+-- The start of a transaction, and the transaction.
 use Rattle.std.specs.Prelude.{◌≡◌, ℕ, length, [], Option, None, Some}
 use Rattle.sal_types.specs.declared.value.Store.{Store}
 use Rattle.sal_rows.specs.declared.outcome.Mode.{Mode}
@@ -17,13 +17,13 @@ pub record IsNewest (d : Domain) (footing : Footing) : Type 0 where
   pub alone : footing.on ≡ None
   pub trees : (s : Store) → rows_in footing.trees s ≡ tip (opening_in d.commits.items) (commits_of d.commits.items) s
 
--- on the pending submission
+-- after the pending submission
 pub record IsOn (sub : Submission) (receipt : ℕ) (footing : Footing) : Type 0 where
   pub commit : footing.commit ≡ sub.base_commit
   pub pending : footing.on ≡ Some receipt
   pub trees : Shows sub.base sub.changes footing.trees
 
--- a transaction of the domain and the chain, if of any, that begins there
+-- a transaction of the domain and the chain, if any, with this start
 pub record Starts (d : Domain) (footing : Footing) (member : Option ℕ) (under : Mode) (at : ℕ) (tx : Tx) : Type 0 where
   pub domain : (begun_of tx).domain ≡ d.number
   pub commit : (begun_of tx).base_commit ≡ footing.commit

@@ -39,9 +39,9 @@ abbrev pub ops_of : Tx → List Op
 ops_of (Read tx) = []
 ops_of (Write tx) = tx.changes
 
--- The transaction was begun by the entry at its place: its domain, the number of its base commit, its chain and the trees
--- of its base are those that the log gives, and its schema is the version that was present there. The entry asked for its mode, and its
--- reply names the pending receipt of its base. So a token of one mode is none of another.
+-- The entry at its index began the transaction: its domain, the number of its base commit, its chain and the trees
+-- of its base are those by the log, and its schema is the version that was present there. The entry has its mode, and its
+-- reply names the pending receipt that it follows. So a token of one mode is none of another.
 pub record IsBegun (known : HubHistory) (begun : Begun) (under : Mode) (trees : Pair) : Type 0 where
   pub before : begun.place < length known.log
   pub began : began_at (history known.world known.log) begun.place ≡ Some (record { domain = begun.domain; commit = begun.base_commit; chain = begun.chain; trees = rows_in trees })
@@ -50,7 +50,7 @@ pub record IsBegun (known : HubHistory) (begun : Begun) (under : Mode) (trees : 
   pub mode : mode_at (history known.world known.log) begun.place ≡ Some under
   pub on : on_at (history known.world known.log) begun.place ≡ Some begun.on
 
--- two transactions that agree in all that the log says of a transaction
+-- two transactions that agree in everything that the log defines of a transaction
 pub record AreAlike (a b : Begun) (under under' : Mode) (trees trees' : Pair) : Type 0 where
   pub mode : under ≡ under'
   pub on : a.on ≡ b.on

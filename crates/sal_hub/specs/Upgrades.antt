@@ -1,4 +1,4 @@
--- An upgrade: why it is refused, and what it leaves.
+-- An upgrade: why it is refused, and its effect.
 use Rattle.std.specs.Prelude.{◌≡◌, ℕ, ◌+◌, List, [], ◌∷◌, not, length, nat_eq, Option, None, Some, Result, MatchResult, slice_get}
 use Rattle.std.specs.Option.{option_map_or, option_or}
 use Rattle.sal_rows.specs.declared.outcome.CallFault.{CallFault}
@@ -12,11 +12,11 @@ use Rattle.sal_history.specs.World as world
 use Rattle.sal_history.specs.World.{version_from}
 use Rattle.sal_hub.specs.PipelineView.{DomainView, PipelineView}
 
--- how many versions the controller's own domain has after the first one
+-- the number of versions of the controller's own domain after the first one
 abbrev pub upgrades_of : List world.Domain → ℕ
 upgrades_of domains = option_map_or (λ (d : world.Domain). length d.upgrades) (slice_get domains 0) 0
 
--- why the domain does not go over to the version: it is not the next one, or a newest tree would break a rule by it
+-- why the upgrade of the domain to the version is refused: it is not the next one, or a newest tree would break a rule of it
 abbrev pub refusal_of : Domain → ℕ → Option CallFault
 refusal_of d version = option_or (fault_if (not (nat_eq (d.version + 1) version)) (WrongVersion d.version)) (broken_by (version_in d version) (newest_in d))
 

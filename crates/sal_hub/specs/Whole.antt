@@ -1,4 +1,4 @@
--- All that a hub keeps is what its log gives.
+-- The hub's whole state is that of its log.
 use Rattle.sal_hub.specs.declared.chains.Chains.{Chains}
 use Rattle.sal_hub.specs.declared.listeners.Listeners.{Listeners}
 use Rattle.sal_hub.specs.declared.marks.Marks.{Marks}

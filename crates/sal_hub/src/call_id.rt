@@ -1,7 +1,7 @@
 //! Requests.
 ghost use Rattle.std.specs.Prelude.{◌≡◌};
 
-/// The token of a request that was made. Requests are numbered from 1, over all RPCs and clients.
+/// The token of a request. Requests are numbered from 1, over all RPCs and clients.
 #[derive(Clone, Copy, Debug, PartialEq, Eq)]
 pub struct CallId {
     number: u64,
@@ -22,7 +22,7 @@ impl CallId {
         self.number
     }
 
-    /// The RPC that it asks.
+    /// Its RPC.
     pub fn rpc(&self) -> u32
         ensures { result ≡ self.now.rpc }
     {

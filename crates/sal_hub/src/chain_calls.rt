@@ -30,7 +30,7 @@ use sal_tx::Tx;
 use sal_types::NoMemory;
 use std::alloc::Global;
 
-/// What a client asks for: the next transaction of the chain, in the mode.
+/// A client's request: the next transaction of the chain, in the mode.
 #[derive(Clone, Copy)]
 pub(crate) struct NextAsk {
     pub(crate) client: u32,
@@ -67,7 +67,7 @@ pub(crate) fn open_chain(
     }
 }
 
-// Adds a chain that has not failed, and the entry. Where memory is wanting, nothing changes that is seen.
+// Adds a chain that has not failed, and the entry. If memory runs out, nothing visible changes.
 fn add_chain(
     failures: &mut Vec<Option<u64>>,
     journal: &mut Journal,
@@ -125,7 +125,7 @@ pub(crate) fn chain_begin(
     }
 }
 
-// Why the chain begins no transaction.
+// Why no transaction begins in the chain.
 fn refusal(
     pipeline: &Pipeline,
     journal: &Journal,
@@ -145,7 +145,7 @@ fn refusal(
     refusal_by(closed, failed, has_open, live, chain.domain())
 }
 
-// The same, by what is looked up: the first that applies.
+// The first reason that applies, from the look-ups.
 fn refusal_by(
     closed: bool,
     failed: Option<u64>,
@@ -170,7 +170,7 @@ fn refusal_by(
     None
 }
 
-// Whether the transaction that began at the place, if any, is neither submitted nor cancelled.
+// Whether the transaction that began at the index, if any, is neither submitted nor cancelled.
 fn is_open(journal: &Journal, begun: Option<u64>) -> bool
     ensures { result ≡ is_open journal.now.marks begun }
 {
@@ -180,7 +180,7 @@ fn is_open(journal: &Journal, begun: Option<u64>) -> bool
     }
 }
 
-// Begins the next transaction of the chain, and adds the entry. Where memory is wanting, nothing changes that is seen.
+// Begins the next transaction of the chain, and adds the entry. If memory runs out, nothing visible changes.
 fn begin_next(
     alloc: Global,
     pipeline: &Pipeline,
@@ -216,7 +216,7 @@ fn begin_next(
     Ok(tx)
 }
 
-// Where a transaction after the submission with this receipt, if any, begins.
+// The start of a transaction that follows the submission with this receipt, if any.
 fn footing_in(
     alloc: Global,
     pipeline: &Pipeline,
@@ -242,7 +242,7 @@ fn footing_in(
     }
 }
 
-/// Closes the chain, which may be closed, and adds the entry.
+/// Closes the chain, adds the entry, and returns whether the chain was closed before.
 pub(crate) fn close_chain(
     journal: &mut Journal,
     closed: &mut [bool],

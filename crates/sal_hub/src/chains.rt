@@ -1,4 +1,4 @@
-//! What is kept of chains.
+//! The hub's records of chains.
 ghost use Rattle.std.specs.Prelude.{◌≡◌, ◌-◌, [], Some, OnOk, length};
 ghost use Rattle.sal_hub.specs.Chains as spec;
 ghost use Rattle.sal_hub.specs.Failures.{IsWithin, noted_with};
@@ -6,7 +6,7 @@ ghost use Rattle.sal_hub.specs.Failures.{IsWithin, noted_with};
 use sal_types::NoMemory;
 use std::alloc::Global;
 
-/// For each chain, by id from 1 on: its domain, whether it is closed, the place of the entry that began its last transaction,
+/// For each chain, by id from 1 on: its domain, whether it is closed, the index of the entry that began its last transaction,
 /// and its last receipt.
 #[derive(Drop)]
 pub(crate) struct Chains {
@@ -17,7 +17,7 @@ pub(crate) struct Chains {
 }
 
 impl Chains {
-    /// No chain. It takes no memory.
+    /// No chains. It takes no memory.
     pub(crate) fn new(alloc: Global) -> Chains
         ensures domains { result.domains.items ≡ [] }
         ensures closed { result.closed.items ≡ [] }
@@ -56,7 +56,7 @@ impl Chains {
     }
 }
 
-/// Notes a number for the chain, if any. It takes no memory.
+/// Records a number for the chain, if any. It takes no memory.
 pub(crate) fn note(notes: &mut [Option<u64>], chain: Option<u64>, number: u64)
     requires { IsWithin (length notes.old) chain }
     ensures { notes.new ≡ noted_with notes.old chain number }

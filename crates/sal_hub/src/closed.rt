@@ -15,7 +15,7 @@ impl Hub {
     pub fn keeps_the_rules(&self)
         ensures { (domain : ℕ) (s : Store) → domain < length self.now.world → breach (tables_now self.now.world (history self.now.world self.now.log) domain) s (newest_tree self.now.world self.now.log domain s) ≡ None }
     {
-        // (a part of the hub is borrowed, so that the proof has what the hub's type keeps)
+        // (a part of the hub is borrowed, so that the proof has the hub's invariant)
         let _log = self.journal.entries();
     }
 
@@ -25,12 +25,12 @@ impl Hub {
     pub fn stays_closed(&self)
         ensures { IsClosedLog self.now.world (history self.now.world self.now.log) }
     {
-        // (a part of the hub is borrowed, so that the proof has what the hub's type keeps)
+        // (a part of the hub is borrowed, so that the proof has the hub's invariant)
         let _log = self.journal.entries();
         sal_history_laws::laws::committed_trees_are_closed();
     }
 
-    /// Does nothing; its contract is a law of each hub. Each version of a schema extends the one before, the opening trees are closed by
+    /// Does nothing; its contract is a law of each hub. Each version of a schema extends the one before, and the opening trees are closed by
     /// version 0. Each submission is lawful, by the present version, over its transaction's base, and an earlier entry began that
     /// transaction in a mode that writes.
     pub fn stays_lawful(&self)
@@ -38,7 +38,7 @@ impl Hub {
         ensures lawful { AreSentLawful self.now.world (history self.now.world self.now.log) }
         ensures writers { AreOfWriters (history self.now.world self.now.log) }
     {
-        // (a part of the hub is borrowed, so that the proof has what the hub's type keeps)
+        // (a part of the hub is borrowed, so that the proof has the hub's invariant)
         let _log = self.journal.entries();
     }
 }

@@ -1,4 +1,4 @@
-//! What became of the submissions.
+//! The outcomes of the submissions.
 ghost use Rattle.std.specs.Prelude.{◌≡◌};
 ghost use Rattle.sal_history.specs.History.{history, outcomes};
 

@@ -1,4 +1,4 @@
-//! The domains that devices open.
+//! The domains of devices at the opening.
 ghost use Rattle.std.specs.Prelude.{◌≡◌, ◌⊎◌, ◌≤◌, ◌∷◌, ◌++◌, [], None, Some, All, IfOk, OnOk, MatchResult, find, length, map};
 ghost use Rattle.std.specs.Option.{option_copied, option_map};
 ghost use Rattle.sal_schema.specs.Fitting.{is_of_state};
@@ -19,7 +19,7 @@ use sal_types::{Duplicate, NoMemory, Row};
 use std::alloc::Global;
 use std::sync::Arc;
 
-/// The domains that the devices open under the version rules, unless their openings are refused.
+/// The domains of the devices under the version rules, unless their openings are refused.
 pub(crate) fn open_all(
     alloc: Global,
     devices: &[Device],
@@ -37,7 +37,7 @@ pub(crate) fn open_all(
     Ok(domains)
 }
 
-/// Does nothing; its contract is what the types of the schemas keep.
+/// Does nothing; its contract is the invariant of the schemas' types.
 pub(crate) fn have_tables(devices: &[Device])
     ensures { All HaveTables devices.now }
 {
@@ -46,7 +46,7 @@ pub(crate) fn have_tables(devices: &[Device])
     }
 }
 
-// Does nothing; its contract is what the types of the device's schemas keep.
+// Does nothing; its contract is the invariant of the types of the device's schemas.
 fn has_tables(device: &Device)
     ensures { HaveTables device.now }
 {
@@ -54,7 +54,7 @@ fn has_tables(device: &Device)
     are_tables(&device.upgrades);
 }
 
-// Does nothing; its contract is what the types of the schemas keep.
+// Does nothing; its contract is the invariant of the schemas' types.
 fn are_tables(versions: &[Arc<Schema>])
     ensures { All IsTable (tables_of versions.now) }
 {
@@ -63,14 +63,14 @@ fn are_tables(versions: &[Arc<Schema>])
     }
 }
 
-// Does nothing; its contract is what the type of the schema keeps.
+// Does nothing; its contract is the invariant of the schema's type.
 fn is_table(schema: &Schema)
     ensures { IsTable schema.now }
 {
     let _ = schema.len();
 }
 
-// Opens one more domain, after those that are open.
+// Opens one more domain, after the open ones.
 fn open_next(
     alloc: Global,
     domains: &mut Vec<Domain>,
@@ -94,7 +94,7 @@ fn add(domains: &mut Vec<Domain>, domain: Domain) -> Result<(), NoMemory>
     Ok(())
 }
 
-// The domain of this number that the device opens.
+// The domain of the device with this number.
 fn open_one(alloc: Global, number: u32, device: &Device, rules: Rules) -> Result<Domain, OpenFault>
     ensures fault { MatchResult result (λ _. opening_fault number (domain_of rules device.now) ≡ None) (λ e. (e ≡ Refused) ⊎ (opening_fault number (domain_of rules device.now) ≡ Some e)) }
     ensures kept { IfOk result (λ d. AreKept d.commits.items) }

@@ -11,8 +11,8 @@ use std::alloc::Global;
 
 impl Hub {
     /// The hub of the next epoch, without calls: each domain begins with its newest trees, by the present version of its schema, under the version
-    /// rules. The nodes of these trees stay as they are. All else of the hub is dropped: its log, its commits, and what is pending. It copies no node,
-    /// makes no check and takes no memory, so it cannot fail.
+    /// rules. The nodes of these trees are kept. Everything else of the hub is dropped: its log, its commits, and pending submissions. It copies no
+    /// node, makes no check and takes no memory, so it cannot fail.
     pub fn next_epoch(self, alloc: Global, rules: Rules) -> Hub
         requires { length self.world ≤ 64 }
         ensures next { result ≡ next_hub rules self }
@@ -23,7 +23,7 @@ impl Hub {
     }
 }
 
-// Each domain begins anew.
+// Each domain begins its next epoch.
 fn begun(mut domains: Vec<Domain>, rules: Rules) -> Vec<Domain>
     requires { AllKept domains.items }
     ensures kept { AllKept result.items }

@@ -1,11 +1,11 @@
-//! Which chains failed: for each chain the receipt by which it did.
+//! Which chains failed: for each chain the receipt at which it did.
 ghost use Rattle.std.specs.Prelude.{◌≡◌, length};
 ghost use Rattle.sal_history.specs.Submissions.{is_done};
 ghost use Rattle.sal_hub.specs.Failures as spec;
 
 use sal_rows::Outcome;
 
-/// The receipt by which the chain of a submission failed, if it is of a chain that did.
+/// The receipt at which the chain of a submission failed, if it has a chain that did.
 pub(crate) fn failure_of(failures: &[Option<u64>], chain: Option<u64>) -> Option<u64>
     requires { spec.IsWithin (length failures.now) chain }
     ensures { result ≡ spec.failure_of failures.now chain }
@@ -16,7 +16,7 @@ pub(crate) fn failure_of(failures: &[Option<u64>], chain: Option<u64>) -> Option
     }
 }
 
-/// Notes the receipt for its chain, unless it is of none, was done, or an earlier one failed.
+/// Records the receipt for its chain, unless it has none, was done, or an earlier one failed.
 pub(crate) fn note_failure(
     failures: &mut [Option<u64>],
     chain: Option<u64>,
@@ -47,7 +47,7 @@ pub(crate) fn is_done(outcome: &Outcome) -> bool
     }
 }
 
-/// Forgets the failures by later receipts than so many.
+/// Removes the failures at receipts above `count`.
 pub(crate) fn cut_failures(failures: &mut [Option<u64>], count: u64)
     ensures { failures.new ≡ spec.cut_failures count failures.old }
 {

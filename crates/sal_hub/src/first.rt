@@ -45,7 +45,7 @@ pub(crate) fn hub_of(alloc: Global, domains: Vec<Domain>) -> Hub
     }
 }
 
-// Nothing waits, and nothing is decided.
+// Nothing is pending, and nothing is decided.
 fn pipeline_of(alloc: Global, domains: Vec<Domain>) -> Pipeline
     ensures domains { result.domains ≡ domains }
     ensures gone { result.gone ≡ 0 }

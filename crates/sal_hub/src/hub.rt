@@ -47,13 +47,13 @@ use sal_types::{NoMemory, Path, Store};
 use std::alloc::Global;
 use std::marker::Model;
 
-/// How many entries the log has at most.
+/// The largest number of entries of the log.
 pub const MAX_ENTRIES: usize = 1000000;
 
-/// How many submissions are pending at most.
+/// The largest number of pending submissions.
 pub const MAX_PENDING: usize = 4096;
 
-/// The hub: the log of the calls, and what it keeps of them. A contract sees the opening trees of the domains and the log.
+/// The hub: the log of the calls, and its state. A contract sees the opening trees of the domains and the log.
 #[derive(Drop)]
 pub struct Hub {
     pub(crate) pipeline: Pipeline,
@@ -81,7 +81,7 @@ impl Model for Hub {
     ghost invariant = { λ h. IsWhole h.journal h.pipeline h.chains h.marks h.listeners h.services };
 }
 
-// The place of the entry that began the transaction.
+// The index of the entry that began the transaction.
 fn place_of(tx: &Tx) -> u64
     ensures { result ≡ (begun_of tx.now).place }
 {
@@ -92,10 +92,10 @@ fn place_of(tx: &Tx) -> u64
 }
 
 impl Hub {
-    /// A hub without calls over the devices, of which the first is the controller's own domain, under the version rules. The opening trees of each fit
-    /// at the root by version 0 of its schema, as what was read there does, and as `fits_rows` of `sal_data` tests; so all committed
-    /// trees do by the present version (`stays_closed`). Each version of a schema extends the one before (`Schema::extends`), and the
-    /// first device alone has more than one.
+    /// A hub without calls over the devices, of which the first is the controller's own domain, under the version rules. The opening trees of each
+    /// fit at the root by version 0 of its schema, as data read there does, and as `fits_rows` of `sal_data` tests; so all committed
+    /// trees do by the present version (`stays_closed`). Each version of a schema extends the one before (`Schema::extends`), and only the
+    /// first device has more than one.
     pub fn open(alloc: Global, devices: Vec<Device>, rules: Rules) -> Result<Hub, OpenFault>
         requires some { 1 ≤ length devices.items }
         requires few { length devices.items ≤ 64 }
@@ -122,7 +122,7 @@ impl Hub {
         &self.pipeline.domains
     }
 
-    /// How many commits the controller's own domain has.
+    /// The number of commits of the controller's own domain.
     pub fn newest(&self) -> u64
         ensures { result ≡ length (commits (history self.now.world self.now.log) 0) }
     {
@@ -136,7 +136,7 @@ impl Hub {
         &last_commit(&self.pipeline.domains[0].commits).trees
     }
 
-    /// How many commits the domain has.
+    /// The number of commits of the domain.
     pub fn newest_of(&self, domain: u32) -> u64
         requires { domain < length self.now.world }
         ensures { result ≡ length (commits (history self.now.world self.now.log) domain) }
@@ -177,7 +177,7 @@ impl Hub {
         )
     }
 
-    /// Submits the transaction, which waits then to be decided. A refused transaction is given back.
+    /// Submits the transaction; it is then pending. A refused transaction is returned.
     pub fn submit(
         &mut self,
         alloc: Global,
@@ -201,7 +201,7 @@ impl Hub {
         }
     }
 
-    /// Gives the transaction up.
+    /// Cancels the transaction.
     pub fn cancel(&mut self, alloc: Global, client: u32, tx: Tx) -> Result<(), (Tx, CallFault)>
         requires token { IsToken self.old tx }
         ensures answer { CallsOr self.old self.new (entry_of self.old client (Cancel (begun_of tx).place)) (λ _. Accepted) tx result }
@@ -281,8 +281,8 @@ impl Hub {
         )
     }
 
-    /// Begins the next transaction of the chain in the mode: on the last submission of the chain while that is pending, and
-    /// else at the newest commit.
+    /// Begins the next transaction of the chain in the mode: it follows the last submission of the chain while that is pending, and
+    /// else its base is the newest commit.
     pub fn chain_begin(
         &mut self,
         alloc: Global,
@@ -365,7 +365,7 @@ impl Hub {
             .listen(alloc, &self.pipeline, &mut self.journal, &ask)
     }
 
-    /// Takes what changed for the client's listener by each commit since its opening, or since what was taken last.
+    /// Takes the batch of the client's listener: the changes of each commit since its opening, or since its last batch.
     pub fn take(&mut self, alloc: Global, client: u32, id: ListenerId) -> Result<Batch, CallFault>
         requires token { IsListener self.old id }
         ensures answer { Calls self.old self.new (entry_of self.old client (Take id.number)) (λ (b : Told). Tells id.domain b) result }
@@ -389,7 +389,7 @@ impl Hub {
             .unlisten(&self.pipeline, &mut self.journal, client, id)
     }
 
-    /// Leaves the mark in the log.
+    /// Sets the mark in the log.
     pub fn mark(&mut self, alloc: Global, client: u32, mark: u32) -> Result<(), CallFault>
         ensures answer { Calls self.old self.new (entry_of self.old client (Mark mark)) (λ _. Accepted) result }
     {
@@ -403,7 +403,7 @@ impl Hub {
         Ok(())
     }
 
-    /// Asks once whether the mark was left.
+    /// Asks once whether the mark was set.
     pub fn after(&mut self, alloc: Global, client: u32, mark: u32) -> Result<Seen, CallFault>
         ensures answer { Calls self.old self.new (entry_of self.old client (After mark)) seen_reply result }
         ensures once { IfOk result (LooksOnce (length self.old.log)) }
@@ -422,7 +422,7 @@ impl Hub {
         Ok(Seen::Late { looks: 1, front })
     }
 
-    /// Whether the mark was left in the log. It takes no memory, and does not go through the log.
+    /// Whether the mark was set in the log. It takes no memory, and does not go through the log.
     pub fn has_mark(&self, mark: u32) -> bool
         ensures { result ≡ has_mark self.now.log mark }
     {

@@ -1,4 +1,4 @@
-//! The log, with what is looked up in it.
+//! The log, with its look-ups.
 ghost use Rattle.std.specs.Prelude.{◌≡◌, ◌<◌, ◌≤◌, ◌↔◌, ◌||◌, ℕ, [], IsTrue, OnErr, OnOk, length, nat_eq};
 ghost use Rattle.sal_hub.specs.Answers.{limit};
 ghost use Rattle.sal_hub.specs.Journals.{jotted, mark_at, taken_back};
@@ -9,8 +9,8 @@ use sal_types::{Counts, NoMemory};
 use std::alloc::Global;
 use std::marker::Model;
 
-/// The log, a mark at each place whose transaction is spent, and the counts of the clients' entries. A contract sees the
-/// log and the marks.
+/// The log, a flag at each index whose transaction is spent, and the counts of the clients' entries. A contract sees the
+/// log and the flags.
 #[derive(Drop)]
 pub(crate) struct Journal {
     entries: Vec<Entry>,
@@ -54,14 +54,14 @@ impl Journal {
         self.entries.len() >= MAX_ENTRIES
     }
 
-    /// Whether the transaction that began at the place is spent.
+    /// Whether the transaction that began at the index is spent.
     pub(crate) fn is_spent(&self, place: usize) -> bool
         ensures { result ≡ mark_at self.now.marks place }
     {
         self.marks.get(place).copied().unwrap_or(false)
     }
 
-    /// Adds an entry of the client. Taken back, the log is as it was.
+    /// Adds an entry of the client. `take_back` undoes it.
     pub(crate) fn add(&mut self, client: u32, call: Call) -> Result<(), NoMemory>
         requires { length self.old.log < limit }
         ensures log { OnOk result (self.new.log ≡ jotted self.old.log client call) }
@@ -84,7 +84,7 @@ impl Journal {
         Ok(())
     }
 
-    /// Takes the last entry back, if there is one. It takes no memory.
+    /// Removes the last entry, if there is one. It takes no memory.
     pub(crate) fn take_back(&mut self)
         ensures { self.new ≡ taken_back self.old }
     {
@@ -98,7 +98,7 @@ impl Journal {
         self.marks.truncate(count - 1);
     }
 
-    /// Marks the transaction that began at the place as spent. It takes no memory.
+    /// Flags the transaction that began at the index as spent. It takes no memory.
     pub(crate) fn spend(&mut self, place: usize)
         requires { place < length self.old.log }
         ensures log { self.new.log ≡ self.old.log }

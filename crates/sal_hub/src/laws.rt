@@ -13,8 +13,8 @@ ghost use Rattle.sal_hub.specs.HubHistory.{HubHistory, more};
 ghost use Rattle.sal_hub.specs.Listeners.{IsMade};
 ghost use Rattle.sal_hub.specs.Tokens.{AreAlike, IsBegun, IsCall, IsChain, IsGiven, IsListener};
 
-/// A token stays one when the log grows: transactions are never less begun, receipts never less given, chains never less
-/// opened, listeners and requests never less made.
+/// A token stays one when the log grows: a transaction that began, a given receipt, an opened chain, a listener and a request
+/// stay such.
 pub fn tokens_last()
     ensures begun { (known : HubHistory) (e : Entry) (begun : Begun) (mode : Mode) (base : Pair) → IsBegun known begun mode base → IsBegun (more known e) begun mode base }
     ensures given { (known : HubHistory) (e : Entry) (receipt : Receipt) → IsGiven known receipt → IsGiven (more known e) receipt }
@@ -24,8 +24,8 @@ pub fn tokens_last()
     ensures made { (known : HubHistory) (e : Entry) (id : ListenerId) (l : Listening) → IsMade known id l → IsMade (more known e) id l }
 {}
 
-/// Transactions that one entry began agree in all that the log says of them. So a transaction of one mode is none of another: no transaction that writes
-/// is made of one that only reads.
+/// Transactions that one entry began agree in everything that the log defines. So a transaction of one mode is none of another: a reading
+/// transaction cannot be turned into a writing one.
 pub fn tokens_agree()
     ensures { (known : HubHistory) (a b : Begun) (mode mode' : Mode) (trees trees' : Pair) → a.place ≡ b.place → IsBegun known a mode trees → IsBegun known b mode' trees' → AreAlike a b mode mode' trees trees' }
 {}

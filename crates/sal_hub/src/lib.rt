@@ -3,55 +3,57 @@
 //! | item | what it is |
 //! |---|---|
 //! | `Hub` | the domains and the log; a contract sees the opening trees and the log alone, `HubHistory` |
-//! | `Hub::open` | a hub over some devices, whose opening trees fit at the root, unless one is refused (`OpenFault`); each device has its domain, the first is the controller's own |
-//! | `Hub::next_epoch` | the hub of the next epoch, which begins with the newest trees as they are; all else is dropped |
-//! | `Hub::begin`, `submit`, `cancel`, `settle`, `pump` | the shared calls: each makes one entry of the log and is answered as the log gives |
+//! | `Hub::open` | a hub over devices whose opening trees fit at the root, unless one is refused (`OpenFault`); the first is the controller's own |
+//! | `Hub::next_epoch` | the hub of the next epoch, which begins with the newest trees, without a copy; all else is dropped |
+//! | `Hub::begin`, `submit`, `cancel`, `settle`, `pump` | the shared calls: each makes one entry of the log, and its reply is the one by the log |
 //! | `Hub::open_chain`, `chain_begin`, `close_chain` | the same, of transaction chains (MD-SAL `DOMTransactionChain`) |
-//! | `Hub::listen`, `take`, `unlisten` | the same, of listeners (MD-SAL `DOMDataTreeChangeListener`): the rows at a path, and then what each commit changed there |
-//! | `Hub::mount`, `unmount`, `mount_at` | the same, of mounts (MD-SAL `DOMMountPointService`): the domain of a device is live from its mount to its unmount |
-//! | `Hub::provide`, `withdraw`, `invoke`, `next_call`, `answer`, `collect` | the same, of RPCs (MD-SAL `DOMRpcProviderService`, `DOMRpcService`): who answers which RPC, the requests, and what they are answered (`sal_rpc`) |
-//! | `Hub::subscribe`, `offer`, `take_notes` | the same, of notifications (MD-SAL `DOMNotificationService`, `DOMNotificationPublishService`): who gets which, and what waits for whom (`sal_note`) |
-//! | `Hub::upgrade` | the same: the controller's own domain gets the next version of its schema, unless a newest tree would break a rule of it |
-//! | `Hub::mark`, `after`, `has_mark` | the same, of marks, by which clients show each other how far they are; and a look that makes no entry |
+//! | `Hub::listen`, `take`, `unlisten` | the same, of listeners (MD-SAL `DOMDataTreeChangeListener`): the rows at a path, then the changes there |
+//! | `Hub::mount`, `unmount`, `mount_at` | the same, of mounts (MD-SAL `DOMMountPointService`): a domain is live from mount to unmount |
+//! | `Hub::provide`, `withdraw`, `invoke` | the same, of RPCs: providers and requests (MD-SAL `DOMRpcProviderService`, `DOMRpcService`; `sal_rpc`) |
+//! | `Hub::next_call`, `answer`, `collect` | the same: requests and answers |
+//! | `Hub::subscribe`, `offer`, `take_notes` | the same, of notifications (MD-SAL `DOMNotificationService`; `sal_note`) |
+//! | `Hub::upgrade` | the same: the next version of the controller's own schema, unless a newest tree would break a rule of it |
+//! | `Hub::mark`, `after`, `has_mark` | the same, of marks, by which clients signal each other; and a look without an entry |
 //! | `Receipt`, `Chain`, `ListenerId`, `CallId` | the tokens of a submission, of a chain, of a listener and of a request |
-//! | `Seen` | what a look for a mark finds |
-//! | `Hub::stays_closed`, `keeps_the_rules`, `stays_lawful`, `stays_serialisable` | do nothing: their contracts are the laws that committed trees are closed by the present versions of their schemas, that the newest break no rule of them, that each submission is lawful and of a transaction that began in a mode that writes, and that what was done reads the same if it is played in the order of the commits |
+//! | `Seen` | the result of a look for a mark |
+//! | `Hub::stays_closed`, `keeps_the_rules` | do nothing; laws: committed trees are closed by the present schema versions; the newest break no rule |
+//! | `Hub::stays_lawful`, `stays_serialisable` | the same: submissions are lawful, of transactions in a mode that writes; commits are serialisable |
 //! | `laws` | functions that do nothing, with laws of the tokens as their contracts |
 //!
-//! Each call tests first that the log has room, then takes all memory that it needs, and changes what is seen last and all at
-//! once: if memory runs out, the hub is as it was. A settle that finds no memory undoes what it decided, and a call on a
-//! service that finds none removes its entry.
+//! Each call first tests that the log has room, then takes all memory that it needs, and changes the visible state last and all at
+//! once: if memory runs out, the hub is unchanged. A settle for which memory runs out undoes its decisions, and such a call on a
+//! service removes its entry.
 //!
 //! A decided submission is dropped, with its base, its view (if it was made) and the look-ups of its operations: its entry in the
-//! log, its outcome and, if it is done, its commit stay. A settle that finds no memory drops nothing. The operations are copied once, for the entry,
-//! and the commit has the same list.
+//! log, its outcome and, if it is done, its commit stay. A settle for which memory runs out drops nothing. The operations are copied once,
+//! for the entry, and the commit shares that list.
 //!
-//! Invariants tie to the log what is kept beside it. By `specs/Current` the pending submissions, the outcomes, the flags of spent
-//! transactions and of live domains are those of the answered log; each submission is lawful over its transaction's base
+//! Invariants relate the hub's state to the log. By `specs/Current` the pending submissions, the outcomes, the flags of spent
+//! transactions and of live domains are those of the log's replies; each submission is lawful over its transaction's base
 //! (`sal_history_laws`), from closed opening trees; and each domain has the version that the log's upgrades give. By
-//! `specs/PipelineView` the commits of each domain, and the receipts by which chains failed, are those of the outcomes. `specs/Chains`
-//! does so for chains, `specs/Listeners` for listeners, `specs/Marks` for marks, `specs/Services` for services; `specs/Whole` has
-//! them all.
+//! `specs/PipelineView` the commits of each domain, and the receipts at which chains failed, are those of the outcomes. `specs/Chains`
+//! does so for chains, `specs/Listeners` for listeners, `specs/Marks` for marks, `specs/Services` for services; `specs/Whole` joins
+//! them.
 //!
-//! A domain that is not live begins no transaction, opens no chain and makes no listener, and a submission that is decided after
-//! the unmount is not committed. Listeners of it are answered as before.
+//! In a domain that is not live no transaction begins, no chain is opened and no listener is made, and a submission that is decided after
+//! the unmount is not committed. Calls on its existing listeners work as before.
 //!
 //! The controller's own domain has all versions of its schema from the start, and `upgrade` goes to the next one. Decisions use the
-//! present version. A transaction keeps the version of its begin, by which it reads and writes, and what was lawful by that version is
-//! so by each later one (`sal_history_laws`), so an upgrade looks at no submission. Whether a listened path has a row of its own follows
+//! present version. A transaction keeps the version of its begin, by which it reads and writes, and operations that are lawful by that
+//! version are lawful by each later one (`sal_history_laws`), so an upgrade checks no submission. Whether a listened path has its own row follows
 //! from the last version. An upgrade makes the plan of the version's rules and checks the newest trees before its entry is added, and
 //! takes no memory after it.
 //!
-//! The next transaction of a chain begins on the chain's last submission while that is pending: it shares the view of that
-//! submission, or makes it where nobody asked for it, and has its base commit. Else it begins at the newest commit. A chain that failed begins no transaction, and its
-//! pending submissions are decided by the receipt that failed. All transactions of a chain are of one domain.
+//! The next transaction of a chain follows the chain's last submission while that is pending: it shares the view of that
+//! submission, or makes it if it was not made, and has its base commit. Otherwise its base is the newest commit. In a failed chain no
+//! transaction begins, and its pending submissions are decided with the receipt that failed. All transactions of a chain are of one domain.
 //!
-//! Of a listener the hub keeps the number of the commit up to which its client has taken. A batch is made from the commits of the
+//! For each listener the hub keeps the number of the commit up to which its client has taken. A batch is made from the commits of the
 //! domain when it is taken.
 //!
-//! A service knows nothing of the hub: its state is a function of its own calls, and it answers whatever they were (`sal_rpc`,
-//! `sal_note`, `sal_mount`). The hub adds the entry of such a call, gives the call to the service, and returns its answer, so
-//! the service's state is at all times that of the log's calls on it. A refused call is an entry, and a call of the service, too.
+//! A service does not depend on the hub: its state is a function of its own calls, for any sequence of these (`sal_rpc`,
+//! `sal_note`, `sal_mount`). The hub adds the entry of such a call, passes the call to the service, and returns its reply, so
+//! the service's state is always that of the log's calls on it. A refused call is an entry, and a call of the service, too.
 //!
 //! ```
 //! let mut hub = Hub::open(alloc, devices, Rules::One)?;
@@ -61,7 +63,7 @@
 //! | call | cost |
 //! |---|---|
 //! | `open` | for each device the nodes of its trees, and the check of both |
-//! | `next_epoch` | the drop of the log and of all commits but the newest; nothing for each node that stays |
+//! | `next_epoch` | the drop of the log and of all commits but the newest; nothing for each node that is kept |
 //! | `log`, `domains`, `outcomes`, `newest`, `trees`, `newest_of`, `trees_of` | constant |
 //! | `begin`, `cancel`, `open_chain`, `chain_begin`, `close_chain` | one search among the clients; a begin shares the nodes of its base |
 //! | `mark`, `after`; `has_mark` | the same, and one search among the marks; that search alone |
@@ -69,15 +71,15 @@
 //! | `take` | the same search, and the changes of each commit after the listener's version (`sal_listen`) |
 //! | `unlisten` | the same search |
 //! | `mount`, `unmount`, `mount_at` | the same, and some searches among mounts (`sal_mount`); a mount copies its path twice |
-//! | `upgrade` | one search among the clients, the plan of the version's rules, and the check of both newest trees of domain 0 (`sal_check`); nothing for each entry or commit |
+//! | `upgrade` | one search among the clients, the plan of the version's rules, and the check of both newest trees of domain 0 (`sal_check`) |
 //! | `submit` | the same, and a copy of the operations for the log, which the commit shares |
-//! | `settle`, `pump` | the decision of each pending submission up to the receipt, or of the first (`sal_commit`), and one number for each domain; if memory runs out, one look at each chain |
+//! | `settle`, `pump` | the decision of each pending submission up to the receipt, or of the first (`sal_commit`), and one number for each domain |
 //! | `provide`, `withdraw` | one search among the clients, two among the registrations, and a copy of the context for the log |
 //! | `invoke` | the same, one more search among the queues, and a copy of the input for the log |
 //! | `next_call`, `take_notes` | one search among the clients and one among the queues; nothing is copied |
 //! | `answer`, `collect` | one search among the clients, and a copy of the output |
-//! | `subscribe` | one search among the clients, one among the queues and one among the notifications, and a walk over the subscribers |
-//! | `offer` | one search among the clients and one among the notifications, a copy of the rows for the log, and for each subscriber two searches among the queues and a copy |
+//! | `subscribe` | one search among clients, queues and notifications each, and a walk over the subscribers |
+//! | `offer` | one search among clients and notifications each, a copy of the rows; for each subscriber two searches among queues and a copy |
 #![tactic(auto)]
 
 mod call_id;

@@ -24,7 +24,7 @@ impl ListenerId {
         self.number
     }
 
-    /// The domain to which it listens.
+    /// Its domain.
     pub fn domain(&self) -> u32
         ensures { result ≡ self.now.domain }
     {
@@ -32,7 +32,7 @@ impl ListenerId {
     }
 }
 
-/// What is kept of a listener: its client, its path and store, the number of the commit up to which it has taken, and
+/// The record of a listener: its client, its path and store, the number of the commit up to which it has taken, and
 /// whether it was not removed yet.
 #[derive(Drop)]
 pub(crate) struct Listener {

@@ -23,7 +23,7 @@ use sal_rows::{Batch, CallFault, Opened};
 use sal_types::{Duplicate, NoMemory, Path, Store};
 use std::alloc::Global;
 
-/// What a client asks to listen to.
+/// The store and the path to which a client wants to listen.
 #[derive(Clone, Copy)]
 pub(crate) struct Ask<'a> {
     pub(crate) client: u32,
@@ -80,7 +80,7 @@ impl Listeners {
         None
     }
 
-    // Makes a listener of this domain, and adds the entry. Where memory is wanting, nothing changes that is seen.
+    // Makes a listener of this domain, and adds the entry. If memory runs out, nothing visible changes.
     fn make(
         &mut self,
         alloc: Global,
@@ -103,7 +103,7 @@ impl Listeners {
         Ok(opened)
     }
 
-    // Adds the listener, at the version of this commit, and the entry. If memory runs out, nothing changes that is seen.
+    // Adds the listener, at the version of this commit, and the entry. If memory runs out, nothing visible changes.
     fn add(&mut self, journal: &mut Journal, ask: &Ask, version: u64) -> Result<(), NoMemory>
         requires room { length journal.old.log < limit }
         requires few { self.old.live < 256 }
@@ -121,7 +121,7 @@ impl Listeners {
         Ok(())
     }
 
-    /// Takes what changed for the client's listener, unless that is refused, and adds the entry.
+    /// Takes the batch of the client's listener, unless that is refused, and adds the entry.
     pub(crate) fn take(
         &mut self,
         alloc: Global,
@@ -151,7 +151,7 @@ impl Listeners {
         }
     }
 
-    // Whether the client has the listener of this number, and it is live.
+    // Whether the client has the listener of this number, and the listener is live.
     fn has(&self, client: u32, number: u64) -> bool
         requires low { 0 < number }
         requires high { number ≤ length self.now.list.items }
@@ -161,8 +161,8 @@ impl Listeners {
         listener.client == client && listener.live
     }
 
-    // Takes what changed for the listener of this number, and adds the entry. Where memory is wanting, nothing changes that
-    // is seen.
+    // Takes the batch of the listener of this number, and adds the entry. If memory runs out, nothing visible
+    // changes.
     fn tell(
         &mut self,
         alloc: Global,
@@ -231,7 +231,7 @@ impl Listeners {
     }
 }
 
-// What is kept of a new listener, at the version of this commit.
+// The record of a new listener, at the version of this commit.
 fn new_of(ask: &Ask, version: u64) -> Result<Listener, NoMemory>
     ensures { IfOk result (λ l. l ≡ spec.new_of ask.now version) }
 {
@@ -246,7 +246,7 @@ fn new_of(ask: &Ask, version: u64) -> Result<Listener, NoMemory>
     })
 }
 
-// Adds the entry of a client that asks to listen.
+// Adds the entry of a listen.
 fn enter(journal: &mut Journal, ask: &Ask) -> Result<(), NoMemory>
     requires { length journal.old.log < limit }
     ensures log { OnOk result (journal.new.log ≡ jotted journal.old.log ask.now.client (spec.call_of ask.now)) }
@@ -264,7 +264,7 @@ fn enter(journal: &mut Journal, ask: &Ask) -> Result<(), NoMemory>
     )
 }
 
-// What changed for the listener by the commits of its domain since its version.
+// The changes for the listener by the commits of its domain since its version.
 fn batch_for(alloc: Global, domain: &Domain, listener: &Listener) -> Result<Batch, NoMemory>
     requires kept { AreKept domain.now.commits.items }
     requires told { listener.now.version < length domain.now.commits.items }

@@ -1,13 +1,13 @@
-//! What is kept of listeners.
+//! The hub's records of listeners.
 ghost use Rattle.std.specs.Prelude.{◌≡◌, []};
 
 use crate::listener::Listener;
 use std::alloc::Global;
 
-/// How many listeners are live at most.
+/// The largest number of live listeners.
 pub const MAX_LISTENERS: u32 = 256;
 
-/// The listeners that were made, by number from 1 on, and how many of them are live.
+/// The listeners, by number from 1 on, and how many of them are live.
 #[derive(Drop)]
 pub(crate) struct Listeners {
     pub(crate) list: Vec<Listener>,
@@ -15,7 +15,7 @@ pub(crate) struct Listeners {
 }
 
 impl Listeners {
-    /// No listener. It takes no memory.
+    /// No listeners. It takes no memory.
     pub(crate) fn new(alloc: Global) -> Listeners
         ensures list { result.list.items ≡ [] }
         ensures live { result.live ≡ 0 }

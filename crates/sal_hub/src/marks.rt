@@ -1,4 +1,4 @@
-//! The marks that were left in the log.
+//! The marks that were set in the log.
 ghost use Rattle.std.specs.Prelude.{◌≡◌, ◌<◌, ◌||◌, ◌&&◌, ℕ, false, not, OnErr, OnOk, length, nat_eq};
 ghost use Rattle.sal_history.specs.declared.call.Call.TheVariants.{Mark};
 ghost use Rattle.sal_hub.specs.Answers.{limit};
@@ -18,7 +18,7 @@ pub(crate) struct Marks {
 }
 
 impl Marks {
-    /// No mark. It takes no memory.
+    /// No marks. It takes no memory.
     pub(crate) fn new(alloc: Global) -> Marks
         ensures { (m : ℕ) → is_key result.map m ≡ false }
     {
@@ -43,7 +43,7 @@ impl Marks {
         Ok(())
     }
 
-    /// Takes the mark out. It takes no memory.
+    /// Removes the mark. It takes no memory.
     pub(crate) fn take_out(&mut self, mark: u32)
         ensures { (m : ℕ) → is_key self.new.map m ≡ (not (nat_eq mark m) && is_key self.old.map m) }
     {
@@ -51,7 +51,7 @@ impl Marks {
     }
 }
 
-/// Leaves the mark, and adds the entry. Where memory is wanting, nothing changes that is seen.
+/// Sets the mark, and adds the entry. If memory runs out, nothing visible changes.
 pub(crate) fn leave(
     journal: &mut Journal,
     marks: &mut Marks,

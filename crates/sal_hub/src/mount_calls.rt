@@ -45,7 +45,7 @@ impl Hub {
         )
     }
 
-    /// Unmounts the domain of a device: it is not live any more, and what is pending there will not be committed.
+    /// Unmounts the domain of a device: it is no longer live, and its pending submissions will not be committed.
     pub fn unmount(&mut self, alloc: Global, client: u32, domain: u32) -> Result<(), CallFault>
         ensures answer { Calls self.old self.new (entry_of self.old client (Unmount domain)) (λ _. Accepted) result }
     {
@@ -61,7 +61,7 @@ impl Hub {
         )
     }
 
-    /// The live domain that is mounted at the path, if one is.
+    /// The live domain that is mounted at the path, if any.
     pub fn mount_at(
         &mut self,
         alloc: Global,
@@ -83,7 +83,7 @@ impl Hub {
     }
 }
 
-// Mounts the device at the path, unless that is refused, and adds the entry. Its domain is live then.
+// Mounts the device at the path, unless that is refused, and adds the entry. Its domain is then live.
 fn mount(
     pipeline: &mut Pipeline,
     journal: &mut Journal,
@@ -108,7 +108,7 @@ fn mount(
     }
 }
 
-// Unmounts the domain, unless that is refused, and adds the entry. The domain is not live any more.
+// Unmounts the domain, unless that is refused, and adds the entry. The domain is then no longer live.
 fn unmount(
     pipeline: &mut Pipeline,
     journal: &mut Journal,
@@ -132,7 +132,7 @@ fn unmount(
     }
 }
 
-// The domain that is mounted at the path, if one is. It adds the entry.
+// The domain that is mounted at the path, if any. It adds the entry.
 fn mount_at(
     pipeline: &Pipeline,
     journal: &mut Journal,
@@ -165,7 +165,7 @@ fn mount_fault(fault: MountFault) -> CallFault
     }
 }
 
-// Makes the call, and adds its entry. Where memory is wanting, nothing changes that is seen.
+// Makes the call, and adds its entry. If memory runs out, nothing visible changes.
 fn add_mount(
     journal: &mut Journal,
     mounts: &mut Mounts,
@@ -203,7 +203,7 @@ fn note_mount(journal: &mut Journal, client: u32, path: &Path, device: u32) -> R
     Ok(())
 }
 
-// Makes the call, and adds its entry. Where memory is wanting, nothing changes that is seen.
+// Makes the call, and adds its entry. If memory runs out, nothing visible changes.
 fn add_unmount(
     journal: &mut Journal,
     mounts: &mut Mounts,

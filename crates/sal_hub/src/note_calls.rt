@@ -17,7 +17,7 @@ use sal_rows::{CallFault, Rows};
 use sal_types::{Duplicate, NoMemory};
 use std::alloc::Global;
 
-/// What a client offers: the notification, with its rows.
+/// A client's offer: the notification, with its rows.
 #[derive(Drop)]
 pub(crate) struct Offering {
     pub(crate) client: u32,
@@ -51,7 +51,7 @@ pub(crate) fn subscribe(
     }
 }
 
-/// Gives the notification to all that are subscribed to it, unless that is refused, and adds the entry.
+/// Gives the notification to all its subscribers, unless that is refused, and adds the entry.
 pub(crate) fn offer(
     alloc: Global,
     pipeline: &Pipeline,
@@ -76,7 +76,7 @@ pub(crate) fn offer(
     }
 }
 
-/// Takes all that waits for the client, and adds the entry.
+/// Takes all notifications that wait for the client, and adds the entry.
 pub(crate) fn take_notes(
     alloc: Global,
     pipeline: &Pipeline,
@@ -109,7 +109,7 @@ fn note_fault(fault: NoteFault) -> CallFault
     }
 }
 
-// The same, where memory may have been wanting: then the entry is taken back.
+// The same if memory may have run out: then the entry is removed.
 fn failed(journal: &mut Journal, fault: NoteFault) -> CallFault
     ensures fault { result ≡ services.note_fault fault }
     ensures journal { journal.new ≡ left_by fault journal.old }

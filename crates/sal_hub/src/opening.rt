@@ -1,4 +1,4 @@
-//! Why a hub is not opened.
+//! Why an opening is refused.
 use sal_rows::Breach;
 use sal_types::{NoMemory, Path, Store};
 use thiserror::Error;

@@ -1,4 +1,4 @@
-//! The domains with their commits, the submissions that wait, and the outcomes.
+//! The domains with their commits, the pending submissions, and the outcomes.
 ghost use Rattle.std.specs.Prelude.{◌≡◌, ℕ, ◌+◌, ◌-◌, ◌<◌, ◌≤◌, false, true, IfOk, MatchOption, OnErr, OnOk, Some, drop, length, map, slice_get, take};
 ghost use Rattle.sal_graft.specs.Kept.{AreKept};
 ghost use Rattle.sal_commit.specs.declared.domain.Domain.{Domain as Stored};
@@ -19,12 +19,12 @@ use sal_types::{Duplicate, NoMemory};
 use std::alloc::Global;
 use std::collections::VecDeque;
 
-/// The domains with their commits, the submissions by receipt without the first ones, which were decided and let go, the
-/// outcomes of all that were decided, and for each chain the receipt by which it failed.
+/// The domains with their commits, the submissions by receipt without the first ones, which were decided and dropped, the
+/// outcomes of all decided ones, and for each chain the receipt at which it failed.
 #[derive(Drop)]
 pub(crate) struct Pipeline {
     pub(crate) domains: Vec<Domain>,
-    /// How many submissions were let go.
+    /// The number of dropped submissions.
     pub(crate) gone: usize,
     pub(crate) waiting: VecDeque<Submission>,
     pub(crate) outcomes: Vec<Outcome>,
@@ -58,7 +58,7 @@ impl Pipeline {
         }
     }
 
-    /// The domain of the number is live from now on, or not.
+    /// Sets whether the domain of the number is live.
     pub(crate) fn set_live(&mut self, domain: u32, live: bool)
         requires kept { AllKept self.old.domains.items }
         requires there { domain < length self.old.domains.items }
@@ -68,7 +68,7 @@ impl Pipeline {
         self.domains[domain as usize].live = live;
     }
 
-    /// The controller's own domain goes over to the version, by which its newest trees break no rule. It takes no memory.
+    /// Makes the version the present one of the controller's own domain, whose newest trees break no rule of it. It takes no memory.
     pub(crate) fn upgrade(&mut self, next: NextVersion)
         requires kept { AllKept self.old.domains.items }
         requires there { 0 < length self.old.domains.items }
@@ -79,7 +79,7 @@ impl Pipeline {
         self.domains[0].upgrade(next);
     }
 
-    // Decides the submission at the index, which is the next one. Where memory is wanting, nothing changes that is seen.
+    // Decides the submission at the index, which is the next one. If memory runs out, nothing visible changes.
     fn decide_one(&mut self, alloc: Global, index: usize) -> Result<(), NoMemory>
         requires kept { AllKept self.old.domains.items }
         requires sound { HasSents (queue_of self.old) }
@@ -103,7 +103,7 @@ impl Pipeline {
         Ok(())
     }
 
-    // Decides the next submissions, up to `upto` in all, and answers the outcome of the last of these. Where memory is wanting,
+    // Decides the next submissions, up to `upto` in all, and returns the outcome of the last of these. If memory runs out,
     // some may be decided.
     fn decide_upto(&mut self, alloc: Global, upto: usize) -> Result<Outcome, NoMemory>
         requires kept { AllKept self.old.domains.items }
@@ -123,7 +123,7 @@ impl Pipeline {
         Ok(outcome)
     }
 
-    /// Takes back what came after so many outcomes, and so many commits of each domain. It takes no memory.
+    /// Keeps the first `outcomes` outcomes, and of each domain as many commits as `counts` has for it. It takes no memory.
     fn cut_back(&mut self, outcomes: usize, counts: &[u64])
         requires kept { AllKept self.old.domains.items }
         requires long { length counts.now ≡ length self.old.domains.items }
@@ -140,8 +140,8 @@ impl Pipeline {
         self.outcomes.truncate(outcomes);
     }
 
-    /// Decides what is pending up to the receipt, adds the entry of the call, and answers the outcome. What is decided is let
-    /// go then. Where memory is wanting, nothing changes that is seen.
+    /// Decides the pending submissions up to the receipt, adds the entry of the call, and returns the outcome. Decided submissions
+    /// are dropped. If memory runs out, nothing visible changes.
     pub(crate) fn settle(
         &mut self,
         alloc: Global,
@@ -182,7 +182,7 @@ impl Pipeline {
     }
 }
 
-// Lets the first submissions go, so that so many are gone. It takes no memory.
+// Drops the first submissions, up to the receipt `decided`. It takes no memory.
 fn let_go(waiting: &mut VecDeque<Submission>, gone: &mut usize, decided: usize)
     requires { gone.old ≤ decided }
     ensures waiting { waiting.new.items ≡ drop (decided - gone.old) waiting.old.items }
@@ -210,7 +210,7 @@ fn outcome_at(outcomes: &[Outcome], index: usize) -> Result<Outcome, NoMemory>
     Ok(outcome)
 }
 
-// How many commits each domain has after its opening.
+// The number of commits of each domain after its opening.
 fn counts_of(alloc: Global, domains: &[Domain]) -> Result<Vec<u64>, NoMemory>
     requires { AllKept domains.now }
     ensures { IfOk result (λ counts. counts.items ≡ counts_of (map shown domains.now)) }
@@ -222,7 +222,7 @@ fn counts_of(alloc: Global, domains: &[Domain]) -> Result<Vec<u64>, NoMemory>
     Ok(counts)
 }
 
-// Cuts each domain back to so many commits after its opening.
+// Cuts each domain back to this many commits after its opening.
 fn cut_domains(domains: &mut [Domain], counts: &[u64])
     requires kept { AllKept domains.old }
     requires long { length counts.now ≡ length domains.old }

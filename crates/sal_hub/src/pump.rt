@@ -1,4 +1,4 @@
-//! Pumps: the first submission that waits is decided.
+//! Pumps: the first pending submission is decided.
 ghost use Rattle.std.specs.Prelude.{◌≡◌, ◌+◌, ◌<◌, IfOk, IfSome, Some, length, slice_get};
 ghost use Rattle.std.specs.Option.{option_map};
 ghost use Rattle.sal_tx.specs.declared.tx.Submission.{Submission as Sent};
@@ -19,7 +19,7 @@ use sal_types::NoMemory;
 use std::alloc::Global;
 use std::collections::VecDeque;
 
-/// Decides the first receipt that is pending, if any, adds the entry, and answers the receipt with its outcome.
+/// Decides the first pending receipt, if any, adds the entry, and returns the receipt with its outcome.
 pub(crate) fn pump(
     alloc: Global,
     pipeline: &mut Pipeline,

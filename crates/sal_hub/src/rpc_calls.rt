@@ -20,7 +20,7 @@ use sal_rpc::{Request, Router, RpcFault};
 use sal_types::{Duplicate, NoMemory, Path};
 use std::alloc::Global;
 
-/// Who answers, or no longer answers, which RPC, in the context, or without one.
+/// A client and the RPC that it provides, or withdraws, in the context, or without one.
 #[derive(Drop)]
 pub(crate) struct Registration {
     pub(crate) client: u32,
@@ -28,7 +28,7 @@ pub(crate) struct Registration {
     pub(crate) context: Option<Path>,
 }
 
-/// What a client asks of an RPC, in the context, or without one.
+/// A client's request of an RPC, in the context, or without one.
 #[derive(Drop)]
 pub(crate) struct RpcAsk {
     pub(crate) client: u32,
@@ -113,7 +113,7 @@ pub(crate) fn invoke(
     }
 }
 
-/// Takes the next request that waits for the client, if one does, and adds the entry.
+/// Takes the next request that waits for the client, if any, and adds the entry.
 pub(crate) fn next_call(
     pipeline: &Pipeline,
     journal: &mut Journal,
@@ -200,7 +200,7 @@ fn rpc_fault(fault: RpcFault) -> CallFault
     }
 }
 
-// The same, where memory may have been wanting: then the entry is taken back.
+// The same if memory may have run out: then the entry is removed.
 fn failed(journal: &mut Journal, fault: RpcFault) -> CallFault
     ensures fault { result ≡ services.rpc_fault fault }
     ensures journal { journal.new ≡ left_by fault journal.old }

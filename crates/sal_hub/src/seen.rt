@@ -1,10 +1,10 @@
-//! What a look for a mark finds.
+//! The result of a look for a mark.
 
-/// Whether a mark was left.
+/// Whether a mark was set.
 #[derive(Clone, Copy, Debug, PartialEq, Eq)]
 pub enum Seen {
-    /// It was left before.
+    /// It was set before.
     Found,
-    /// It was not, after so many looks; the log had `front` entries at the last of them.
+    /// It was not, after `looks` looks; the log had `front` entries at the last of them.
     Late { looks: u32, front: u64 },
 }

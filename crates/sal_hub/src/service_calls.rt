@@ -21,7 +21,7 @@ use sal_types::Path;
 use std::alloc::Global;
 
 impl Hub {
-    /// Registers the client as the one who answers the RPC in the context, or without one.
+    /// Registers the client as the provider of the RPC in the context, or without one.
     pub fn provide(
         &mut self,
         alloc: Global,
@@ -104,7 +104,7 @@ impl Hub {
         )
     }
 
-    /// Takes the next request that waits for the client, if one does.
+    /// Takes the next request that waits for the client, if any.
     pub fn next_call(&mut self, alloc: Global, client: u32) -> Result<Option<Request>, CallFault>
         ensures answer { Calls self.old self.new (entry_of self.old client NextCall) request_reply result }
     {
@@ -142,7 +142,7 @@ impl Hub {
         )
     }
 
-    /// The answer to a request that the client made; none where it is not answered yet.
+    /// The answer to a request that the client made; none if it is not answered yet.
     pub fn collect(
         &mut self,
         alloc: Global,
@@ -164,7 +164,7 @@ impl Hub {
         )
     }
 
-    /// Subscribes the client to the notification. Who is subscribed stays so.
+    /// Subscribes the client to the notification, unless it is subscribed.
     pub fn subscribe(&mut self, alloc: Global, client: u32, note: u32) -> Result<(), CallFault>
         ensures answer { Calls self.old self.new (entry_of self.old client (Subscribe note)) (λ _. Accepted) result }
     {
@@ -181,7 +181,7 @@ impl Hub {
         )
     }
 
-    /// Gives the notification to all that are subscribed to it, and answers how many they are.
+    /// Gives the notification to all its subscribers, and returns their number.
     pub fn offer(
         &mut self,
         alloc: Global,

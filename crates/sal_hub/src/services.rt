@@ -1,9 +1,9 @@
-//! The services of the broker that the hub keeps beside the data.
+//! The services of the hub.
 use sal_mount::Mounts;
 use sal_note::Notes;
 use sal_rpc::Router;
 
-/// The services, each with what it keeps of its own calls.
+/// The services, each with the state of its own calls.
 #[derive(Drop)]
 pub(crate) struct Services {
     pub(crate) mounts: Mounts,

@@ -27,7 +27,7 @@ use sal_types::{Duplicate, NoMemory};
 use std::alloc::Global;
 use std::sync::Arc;
 
-/// Where a transaction begins: the number of its base commit, the pending receipt of its base, if any, and the trees
+/// The start of a transaction: the number of its base commit, the pending receipt that it follows, if any, and the trees
 /// that it sees.
 #[derive(Drop)]
 pub(crate) struct Footing {
@@ -36,7 +36,7 @@ pub(crate) struct Footing {
     pub(crate) trees: Pair,
 }
 
-/// What a client asks for: the next transaction of the chain, or one of no chain, in the mode.
+/// A client's request: the next transaction of the chain, or one without a chain, in the mode.
 #[derive(Clone, Copy)]
 pub(crate) struct Wish {
     pub(crate) client: u32,
@@ -82,7 +82,7 @@ pub(crate) fn on_pending(
     })
 }
 
-// A transaction of the domain that begins there, as the entry at the place of the log.
+// A transaction of the domain with this start, as the entry at the index of the log.
 fn start(
     alloc: Global,
     domain: &Domain,
@@ -112,7 +112,7 @@ fn start(
     }
 }
 
-// The call that the client makes.
+// The client's call.
 fn call_of(domain: u32, wish: Wish) -> Call
     ensures { result ≡ call_of domain wish.chain wish.mode }
 {
@@ -123,7 +123,7 @@ fn call_of(domain: u32, wish: Wish) -> Call
     }
 }
 
-/// Begins a transaction of the domain there, and adds the entry.
+/// Begins a transaction of the domain with this start, and adds the entry.
 pub(crate) fn enter(
     alloc: Global,
     journal: &mut Journal,

@@ -1,4 +1,4 @@
-//! Submissions that are handed in.
+//! Submissions.
 ghost use Rattle.std.specs.Prelude.{◌≡◌, ℕ, ◌+◌, ◌-◌, ◌<◌, ◌≤◌, ◌||◌, IfOk, MatchResult, OnErr, OnOk, length, nat_eq};
 ghost use Rattle.sal_tx.specs.Views.{IsRight};
 ghost use Rattle.sal_history.specs.declared.call.Call.TheVariants.{Submit};
@@ -50,7 +50,7 @@ pub(crate) fn submit(
     }
 }
 
-// Why the submit of the transaction that began at the place is refused.
+// Why the submit of the transaction that began at the index is refused.
 fn refusal(pipeline: &Pipeline, journal: &Journal, place: usize) -> Option<CallFault>
     requires { pipeline.now.gone ≡ length pipeline.now.outcomes.items }
     ensures { result ≡ refusal_of (pipeline.now.gone + length pipeline.now.waiting.items - length pipeline.now.outcomes.items) (mark_at journal.now.marks place) }
@@ -94,8 +94,8 @@ fn note_shared(
     journal.add(client, Call::Submit { place, ops })
 }
 
-// Adds the submission and its entry, and marks the transaction as spent. Where memory is wanting, it is given back, and nothing
-// changes.
+// Adds the submission and its entry, and flags the transaction as spent. If memory runs out, the transaction is returned, and
+// nothing changes.
 fn accept(
     alloc: Global,
     pipeline: &mut Pipeline,

@@ -20,8 +20,8 @@ use sal_types::NoMemory;
 use std::alloc::Global;
 
 impl Hub {
-    /// Goes over to the next version of the schema of the controller's own domain, unless a newest tree would break a structural rule
-    /// by it. The version is one of those that the hub was opened with. It costs one check of both newest trees of that domain, and
+    /// Makes the next version of the schema of the controller's own domain the present one, unless a newest tree would break a structural rule
+    /// of it. The version is one of those of the hub's opening. It costs one check of both newest trees of that domain, and
     /// nothing that grows with the log or the commits.
     pub fn upgrade(&mut self, alloc: Global, client: u32, version: u32) -> Result<(), CallFault>
         requires low { 1 ≤ version }
@@ -41,7 +41,7 @@ impl Hub {
     }
 }
 
-// Goes over to the version, unless that is refused, and adds the entry. All memory is taken before the domain changes.
+// Makes the version the present one, unless that is refused, and adds the entry. All memory is taken before the domain changes.
 fn upgrade(
     alloc: Global,
     pipeline: &mut Pipeline,
@@ -69,7 +69,7 @@ fn upgrade(
     Ok(())
 }
 
-// The version with the plan of its rules, or why the domain does not go over to it. It takes the memory of the upgrade.
+// The version with the plan of its rules, or why it is refused. It takes the memory of the upgrade.
 fn ready(
     alloc: Global,
     domain: &Domain,

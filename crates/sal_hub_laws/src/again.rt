@@ -1,4 +1,4 @@
-//! A settle that finds no memory, and the next one.
+//! A settle for which memory runs out, and the next one.
 ghost use Rattle.sal_rows.specs.declared.outcome.Outcome.{Outcome as Decided};
 ghost use Rattle.sal_history.specs.declared.call.Call.TheVariants.{Settle};
 ghost use Rattle.sal_history.specs.declared.reply.Reply.TheVariants.{Settled};
@@ -10,7 +10,7 @@ use sal_hub::{Hub, Receipt};
 use sal_rows::{CallFault, Outcome};
 use std::alloc::Global;
 
-/// Settles, and once more if memory was wanting. Its clause is that of one settle: the first one left all receipts pending that were, and
+/// Settles, and once more if memory ran out. Its clause is that of one settle: the first one leaves all pending receipts pending, and
 /// the next one with memory gives what the first would have given.
 pub fn settle_again(
     alloc: Global,

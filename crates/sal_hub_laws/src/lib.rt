@@ -1,10 +1,10 @@
-//! What follows from the contracts of a hub's calls.
+//! Consequences of the contracts of a hub's calls.
 //!
 //! | item | what it is |
 //! |---|---|
-//! | `settle_again` | a settle, and one more if memory was wanting: its clause is that of one settle |
+//! | `settle_again` | a settle, and one more if memory ran out: its clause is that of one settle |
 //!
-//! So a settle that finds no memory leaves all receipts pending that were, and the next one with memory gives what the first would have
+//! So a settle for which memory runs out leaves all pending receipts pending, and the next one with memory gives what the first would have
 //! given. No crate calls it: its contract is the law.
 //!
 //! ```

@@ -1,12 +1,12 @@
-//! What a client passes before each of its steps.
+//! The gate that a client passes before each of its steps.
 
-/// A gate, called before each step of a client. It answers nothing, so it decides nothing but when.
+/// A gate, called before each step of a client. It returns nothing, so it affects only when the step runs.
 pub trait Gate: Sync {
-    /// Lets the client go on to this step.
+    /// Returns when the client may run this step.
     fn pass(&self, client: u32, step: u32);
 }
 
-/// The gate that lets everybody go on at once.
+/// The gate that lets every client pass at once.
 #[derive(Clone, Copy, Debug, PartialEq, Eq)]
 pub struct OpenGate;
 

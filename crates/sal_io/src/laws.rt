@@ -1,4 +1,4 @@
-//! Worked examples of the words of `specs/`, and what they say where a source tells its bytes.
+//! Worked examples of the definitions in `specs/`, and their meaning for a source whose bytes are known.
 ghost use Rattle.std.specs.Prelude.{◌≡◌, ◌<◌, ◌≤◌, ◌^◌, ◌-◌, [], ◌∷◌, List, ℕ, length, true, false, Some, Ok, Err, Vec};
 ghost use Rattle.std.specs.declared.option.Option.{Option};
 ghost use Rattle.std.specs.declared.alloc.Global.{Global};
@@ -7,7 +7,7 @@ ghost use Rattle.sal_io.specs.Memory.{called, is_named, refuses, uncalled};
 ghost use Rattle.sal_io.specs.Transfer.{TakenBy, TakesFront};
 ghost use Rattle.sal_io.specs.declared.fault.ReadFail.TheVariants.{TooLong};
 
-/// Counts and calls, by example. It does nothing.
+/// Examples of counts and calls. It does nothing.
 pub fn counting_examples()
     ensures goes_on { next_count 4 ≡ 5 }
     ensures stays { next_count (2 ^ 64 - 1) ≡ 2 ^ 64 - 1 }
@@ -22,8 +22,8 @@ pub fn counting_examples()
     ensures full_for_none { refuses (record { taken = 7 ∷ []; room = 0; calls = uncalled [] }) [] ≡ false }
 {}
 
-/// What the answers of `read_all` mean where the source tells its bytes: `Ok` has them all and they are within the
-/// limit, `TooLong` says that they are past it. It does nothing.
+/// The meaning of the answers of `read_all` for a source whose bytes are known: `Ok` has them all, within the limit;
+/// `TooLong` says that there are more than the limit. It does nothing.
 pub fn reading_laws()
     ensures ok { (left : List ℕ) (after : Option (List ℕ)) (limit : ℕ) (bytes : Vec ℕ Global)
         → TakenBy (Some left) after limit (Ok bytes) → (bytes.items ≡ left) × (length left ≤ limit) }

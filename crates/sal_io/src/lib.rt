@@ -1,17 +1,17 @@
-//! The outside of the data broker: where its input comes from and its output goes to, with what they tell of their
-//! bytes and how often they failed.
+//! Input and output of the data broker: sources and sinks, whose contracts count their faults and, where the bytes are
+//! known, name the bytes.
 //!
 //! | type | what it is |
 //! |---|---|
-//! | `Source` | what bytes are read from; `read_all` reads it to its end |
-//! | `Sink` | what bytes are written to; `write_all` writes a whole text |
-//! | `MemSource`, `MemSink` | both in memory: they tell their bytes, and fail at given calls |
-//! | `StdSource`, `StdSink` | both over a reader and a writer of std; over standard input and output they tell nothing |
-//! | `Gate`, `OpenGate` | what a client passes before each step, which decides nothing; one that is always open |
+//! | `Source` | bytes to read; `read_all` reads it to its end |
+//! | `Sink` | takes bytes; `write_all` writes a whole text |
+//! | `MemSource`, `MemSink` | both in memory: their bytes are known, and they fail at given calls |
+//! | `StdSource`, `StdSink` | over a reader and a writer of std; the bytes of standard input and output are not known |
+//! | `Gate`, `OpenGate` | a client passes it before each step, and it changes no result; one that is always open |
 //! | `Failed`, `ReadFail` | one call failed; why `read_all` has no bytes |
 //!
-//! A contract sees what a source has left and a sink has taken where they tell it, and a count of faults. A fault is
-//! answered only where that count rose, so no body can make one up. `specs/` has the words.
+//! A contract sees the bytes that a source still has and a sink has taken, where these are known, and a count of faults.
+//! A call may return a fault only if that count rose, so no body can invent one. `specs/` has the definitions.
 //!
 //! ```
 //! let mut source = StdSource::new(rt.stdin());
@@ -20,8 +20,8 @@
 //! write_all(&mut sink, &text)?;
 //! ```
 //!
-//! Costs: `read_all` is linear in the bytes and reads them in place, in pieces of up to 64 KiB; past its limit it takes
-//! one byte off the source. `write_all` takes no memory.
+//! Costs: `read_all` is linear in the bytes and reads them in place, in pieces of up to 64 KiB; if the source has more than
+//! the limit, it takes one byte beyond it. `write_all` takes no memory.
 #![tactic(auto)]
 
 pub mod fault;

@@ -12,7 +12,7 @@ use sal_types::NoMemory;
 use std::alloc::Global;
 use std::marker::Model;
 
-// The calls that fail, and how many were made and failed.
+// The numbers of the calls that fail, and how many calls were made and how many failed.
 #[derive(Drop)]
 struct Plan {
     fails: Vec<u64>,
@@ -39,7 +39,7 @@ impl Plan {
         }
     }
 
-    // Whether the next call is one that fails.
+    // Whether the next call fails.
     fn names_next(&self) -> bool
         ensures { result ≡ is_named self.now }
     {
@@ -59,8 +59,8 @@ impl Plan {
     }
 }
 
-/// A source of these bytes, which tells them. It reads as much as fits the buffer, and fails at the calls that it is
-/// given, counted from 0.
+/// A source of these bytes, which its contract knows. A read fills as much of the buffer as it can. The calls with the given
+/// numbers, counted from 0, fail.
 #[derive(Drop)]
 pub struct MemSource {
     bytes: Vec<u8>,
@@ -118,8 +118,8 @@ impl Source for MemSource {
     }
 }
 
-/// A sink that tells what it took. It takes what still fits its room, and fails where nothing fits, and at the calls
-/// that it is given, counted from 0.
+/// A sink whose contract knows the bytes taken. It takes as many as its room allows, and fails if nothing fits, and at the
+/// calls with the given numbers, counted from 0.
 #[derive(Drop)]
 pub struct MemSink {
     bytes: Vec<u8>,
@@ -139,8 +139,8 @@ impl Model for MemSink {
 }
 
 impl MemSink {
-    /// An empty sink with room for so many bytes, whose calls with these numbers fail. The room is reserved, so a
-    /// write takes no memory.
+    /// An empty sink with room for `room` bytes, whose calls with these numbers fail. The room is reserved, so a write
+    /// takes no memory.
     pub fn new(alloc: Global, room: usize, fails: Vec<u64>) -> Result<Self, NoMemory>
         ensures { IfOk result (λ sink. sink ≡ record { taken = []; room = room; calls = uncalled fails.items }) }
     {
@@ -152,7 +152,7 @@ impl MemSink {
         })
     }
 
-    /// What was taken.
+    /// The bytes taken so far.
     pub fn bytes(&self) -> &[u8]
         ensures { result.now ≡ self.now.taken }
     {

@@ -1,4 +1,4 @@
-//! What bytes are written to.
+//! Sinks, which take bytes.
 ghost use Rattle.std.specs.Prelude.{◌<◌, ℕ, List, length, IfOk, OnOk, OnErr};
 ghost use Rattle.std.specs.declared.option.Option.{Option};
 ghost use Rattle.std.specs.Io.{WritesAtMost};
@@ -10,7 +10,7 @@ use crate::fault::Failed;
 
 /// Where bytes go.
 pub trait Sink {
-    /// The bytes that it has taken, where the sink tells them.
+    /// The bytes that it has taken, if they are known.
     ghost taken: { Self → Option (List ℕ) };
 
     /// How often it has failed.
@@ -25,7 +25,7 @@ pub trait Sink {
         ensures cause { HasCause (faults self.old) (faults self.new) result };
 }
 
-/// Writes all of the bytes. After `Failed` the sink has taken a front of them. It takes no memory.
+/// Writes all bytes. After `Failed` the sink has taken a prefix of them. It takes no memory.
 pub fn write_all<K: Sink>(sink: &mut K, bytes: &[u8]) -> Result<(), Failed>
     ensures whole { OnOk result (Appends (K.taken sink.old) (K.taken sink.new) bytes.now) }
     ensures front { OnErr result ((rest : List ℕ)

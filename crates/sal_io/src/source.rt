@@ -1,4 +1,4 @@
-//! What bytes are read from.
+//! Sources, which give bytes.
 ghost use Rattle.std.specs.Prelude.{◌≡◌, ◌<◌, ◌≤◌, ◌+◌, ◌++◌, ℕ, List, length, max, take, drop, IfOk, OnOk, OnErr, IsErrOf, vec_len};
 ghost use Rattle.std.specs.declared.option.Option.{Option};
 ghost use Rattle.std.specs.Io.{ReadsAtMost};
@@ -11,25 +11,25 @@ use std::alloc::{AllocError, Global};
 
 /// Where bytes come from.
 pub trait Source {
-    /// The bytes that are left, where the source tells them.
+    /// The bytes that it still has, if they are known.
     ghost left: { Self → Option (List ℕ) };
 
     /// How often it has failed.
     ghost faults: { Self → ℕ };
 
-    /// Reads some bytes into the front of the buffer and answers how many. 0 for a buffer that is not empty is the
-    /// end. A failed read takes nothing off the source.
+    /// Reads some bytes into the front of the buffer and returns their number. 0 for a buffer that is not empty means the
+    /// end. A failed read takes no bytes from the source.
     fn read(&mut self, buf: &mut [u8]) -> Result<usize, Failed>
         ensures bound { ReadsAtMost result buf.new }
         ensures bytes { ReadConsumes (left self.old) (left self.new) result buf.new }
         ensures cause { HasCause (faults self.old) (faults self.new) result };
 }
 
-// How many bytes one read asks for at most.
+// The most bytes that one read asks for.
 const PIECE: usize = 65_536;
 
-/// Reads all that the source has left, if it is at most `limit` bytes. With `TooLong` it has taken one byte more than
-/// that off the source, with any other error no more than `limit`; what was read is then lost to the caller.
+/// Reads all bytes that the source still has, if they are at most `limit`. With `TooLong` it has taken `limit + 1` bytes from
+/// the source, with any other error at most `limit`; the caller does not get these bytes.
 pub fn read_all<S: Source>(alloc: Global, source: &mut S, limit: usize) -> Result<Vec<u8>, ReadFail>
     ensures taken { TakenBy (S.left source.old) (S.left source.new) limit result }
     ensures read_fault { IsErrOf result ReadFail.ReadFault
@@ -51,7 +51,7 @@ pub fn read_all<S: Source>(alloc: Global, source: &mut S, limit: usize) -> Resul
     Err(ReadFail::TooLong)
 }
 
-// Makes the buffer longer than what is filled. What stands there already stays.
+// Makes the buffer longer than `filled`. The bytes before `filled` stay.
 fn make_room(bytes: &mut Vec<u8>, filled: usize, most: usize) -> Result<(), AllocError>
     requires filled { filled ≤ vec_len bytes.old }
     requires some { 0 < most }
@@ -67,7 +67,7 @@ fn make_room(bytes: &mut Vec<u8>, filled: usize, most: usize) -> Result<(), Allo
     Ok(())
 }
 
-// One read into the buffer after what is filled.
+// One read into the buffer, from `filled` on.
 fn read_at<S: Source>(source: &mut S, bytes: &mut [u8], filled: usize) -> Result<usize, Failed>
     requires { filled < length bytes.old }
     ensures front { take filled bytes.new ≡ take filled bytes.old }

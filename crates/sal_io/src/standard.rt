@@ -1,7 +1,7 @@
 //! Sources and sinks over the readers and writers of std, as standard input and output are.
 //!
-//! A source tells what its reader tells, so over standard input it tells nothing: nothing is known of what the system
-//! gives. A sink tells nothing, since a flush may fail after bytes were taken.
+//! The bytes of a source are known if those of its reader are, so those of standard input are not: no contract can say what
+//! the system gives. Those of a sink are not known, since a flush may fail after bytes were taken.
 ghost use Rattle.std.specs.Prelude.{◌≡◌, None};
 
 use crate::fault::Failed;
@@ -80,7 +80,7 @@ impl<W: Write> Sink for StdSink<W> {
 
     ghost faults = { λ s. s };
 
-    /// A write that takes nothing of a piece that is not empty, and a failed flush, are faults too.
+    /// A write that takes no byte of a piece with bytes, and a failed flush, are faults too.
     fn write(&mut self, piece: &[u8]) -> Result<usize, Failed> {
         match self.output.write(piece) {
             Ok(count) if (count > 0 || piece.is_empty()) && self.output.flush().is_ok() => {

@@ -6,7 +6,7 @@ ghost use Rattle.sal_json.specs.Examples as example;
 
 use crate::fault::ScalarFault;
 
-/// Numbers, read and written as the definitions say. A call does nothing: its clauses are the laws.
+/// Numbers, read and written by the definitions. A call does nothing: its clauses are the laws.
 pub fn numbers()
     ensures highest { example.reads example.uint8 (number (unsigned 255)) ≡ example.gives (Unsigned 255) }
     ensures past { example.reads example.uint8 (number (unsigned 256)) ≡ Err ScalarFault.OutOfRange }
@@ -25,7 +25,7 @@ pub fn numbers()
     ensures long_key { example.reads_key example.int64 "+05" ≡ example.gives (Signed (pos 5)) }
 {}
 
-/// The other types, read and written as the definitions say. A call does nothing: its clauses are the laws.
+/// The other types, read and written by the definitions. A call does nothing: its clauses are the laws.
 pub fn other_types()
     ensures binary { example.reads_text example.binary "AQID" ≡ example.gives (Bin (1 ∷ 2 ∷ 3 ∷ [])) }
     ensures unpadded { example.reads_text example.binary "AQI" ≡ Err ScalarFault.WrongKind }

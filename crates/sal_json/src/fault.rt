@@ -57,7 +57,7 @@ impl<T: Drop> From<AllocFailed<T>> for ScalarFault {
     }
 }
 
-/// Why no patterns come of a schema.
+/// Why the patterns of a schema are refused.
 #[derive(Clone, Copy, Debug, Error)]
 pub enum PatternsFault {
     /// A type, by its number, has a malformed pattern.

@@ -1,4 +1,4 @@
-//! Atoms of types that are no unions, from JSON values.
+//! Atoms of types that are not unions, from JSON values.
 ghost use Rattle.std.specs.Prelude.{◌≡◌, ◌<◌, IfOk, IsTrue, length};
 ghost use Rattle.sal_types.specs.Reading.{GivesUnless};
 ghost use Rattle.sal_restrict.specs.declared.yang_type.YangType.{out-YangType};
@@ -18,7 +18,7 @@ use sal_types::{Atom, NoMemory};
 use serde_json::Value as Json;
 use std::alloc::Global;
 
-/// The whole number that a JSON value is held as.
+/// The whole number of a JSON value.
 fn whole_of(json: &Json) -> Option<i128>
     ensures { result ≡ spec.whole_of (view json.now) }
 {

@@ -8,9 +8,9 @@
 //! | `ScalarFault`, `PatternsFault` | why there is no value, or there are no patterns |
 //! | `laws` | functions that do nothing, each with laws of the definitions as its contract |
 //!
-//! `specs/Read` says which value a JSON value or a text denotes, with `Numerals`, `Named` and `Patterns` for numbers, names
-//! and patterns. `specs/Written` has the one spelling in which each value is written. The readers and writers give what these
-//! definitions give, unless memory runs out. What is read is of its type, and what is written for it reads as it again
+//! `specs/Read` defines which value a JSON value or a text denotes, with `Numerals`, `Named` and `Patterns` for numbers, names
+//! and patterns. `specs/Written` defines the one spelling of each value. The readers and writers return what these
+//! definitions give, unless memory runs out. A value that was read is of its type, and what is written for it reads as it again
 //! (`laws`).
 //!
 //! ```
@@ -20,8 +20,8 @@
 //! ```
 //!
 //! Costs: reading and writing are linear in the text. A name is looked for among those of its type, one after another, and an
-//! identity by halves. A string costs what `regex` takes to search it for each pattern, and a union what its members cost up to
-//! the one that takes the value.
+//! identity by binary search. A string costs what `regex` takes to search it for each pattern, and a union what its members cost
+//! up to the one that takes the value.
 #![tactic(auto)]
 
 mod examples;

@@ -17,7 +17,7 @@ fn place_of_name(names: &[Str], text: &[u8]) -> Option<usize>
     names.iter().position(|name| text == name.items())
 }
 
-/// The place of the enum of this name.
+/// The index of the enum of this name.
 pub(crate) fn enum_atom(names: &[Str], places: &[u32], text: &[u8]) -> Result<Atom, ScalarFault>
     ensures { result ≡ spec.enum_atom names.now places.now text.now }
 {
@@ -107,7 +107,7 @@ pub(crate) fn bits_atom(names: &[Str], positions: &[u8], text: &[u8]) -> Result<
     }
 }
 
-/// Whether the identity is there and derived from all bases.
+/// Whether the identity exists and is derived from all bases.
 fn takes_identity(schema: &Schema, bases: &[u32], identity: u32) -> bool
     ensures { result ≡ takes_identity schema.now bases.now identity }
 {
@@ -122,7 +122,7 @@ fn takes_identity(schema: &Schema, bases: &[u32], identity: u32) -> bool
     true
 }
 
-/// The identity, where it is derived from all bases.
+/// The identity, if it is derived from all bases.
 fn derived_atom(schema: &Schema, bases: &[u32], identity: u32) -> Result<Atom, ScalarFault>
     ensures { result ≡ spec.derived_atom schema.now bases.now identity }
 {
@@ -133,7 +133,7 @@ fn derived_atom(schema: &Schema, bases: &[u32], identity: u32) -> Result<Atom, S
     }
 }
 
-/// The identity of this name, where it is derived from all bases.
+/// The identity of this name, if it is derived from all bases.
 pub(crate) fn identity_atom(
     schema: &Schema,
     module: u32,

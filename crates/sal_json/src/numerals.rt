@@ -16,7 +16,7 @@ fn is_in_64(number: i128) -> bool
     i128::from(i64::MIN) <= number && number <= i128::from(i64::MAX)
 }
 
-/// The value that a whole number is in an integer type.
+/// The value of a whole number in an integer type.
 pub(crate) fn whole_atom(has_sign: bool, range: &Ranges, number: i128) -> Result<Atom, ScalarFault>
     ensures { result ≡ spec.whole_atom has_sign range.now number }
 {
@@ -50,7 +50,7 @@ fn unsigned_atom(range: &Ranges, number: i128) -> Result<Atom, ScalarFault>
     }
 }
 
-/// The value that a number with this sign is in an integer type. Its size is 2^128 - 1 where it is greater.
+/// The value of a number with this sign in an integer type. Its size is 2^128 - 1 if it is greater.
 fn sized_atom(
     has_sign: bool,
     range: &Ranges,
@@ -65,7 +65,7 @@ fn sized_atom(
     }
 }
 
-/// Whether the text is a whole number: any in a type of 64 bits, and else one without a plus and without zeros in front.
+/// Whether the text is a whole number: any in a type of 64 bits, and else one without a plus and without leading zeros.
 fn is_number(bits: u8, text: &[u8]) -> bool
     ensures { result ≡ spec.is_number bits text.now }
 {
@@ -120,14 +120,14 @@ fn first_of(further: &[u8], digits: u8) -> &[u8]
     front(further, further.len().min(digits as usize))
 }
 
-/// Whether the digits that the type has no place for are zeros.
+/// Whether the digits beyond those of the type are zeros.
 fn is_exact(digits: u8, text: &[u8]) -> bool
     ensures { result ≡ spec.is_exact digits text.now }
 {
     all_zeros(rest_of(after_first(b'.', text), digits))
 }
 
-/// What these digits write after a point.
+/// The value of these digits after a point.
 fn fraction_of(further: &[u8], digits: u8) -> u128
     requires few { digits ≤ 18 }
     requires short { length further.now ≤ digits }
@@ -136,7 +136,7 @@ fn fraction_of(further: &[u8], digits: u8) -> u128
     decimal(further).saturating_mul(10u128.pow(u32::from(digits - further.len() as u8)))
 }
 
-/// How many units the number has, or 2^128 - 1 where it has more.
+/// How many units the number has, or 2^128 - 1 if it has more.
 fn units_of(digits: u8, text: &[u8]) -> u128
     requires { digits ≤ 18 }
     ensures { result ≡ min (spec.units_of digits text.now) (2 ^ 128 - 1) }

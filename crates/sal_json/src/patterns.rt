@@ -13,7 +13,7 @@ use std::alloc::Global;
 use std::marker::Model;
 use std::sync::Arc;
 
-/// A pattern of a whole text, seen as the text of the pattern that is searched for.
+/// A pattern of a whole text. A contract sees the text of the pattern that is searched for.
 #[derive(Drop)]
 pub(crate) struct Whole {
     regex: Regex,
@@ -32,7 +32,7 @@ impl Model for Whole {
 }
 
 impl Whole {
-    /// The pattern, or none where it is malformed.
+    /// The pattern, or none if it is malformed.
     fn new(alloc: Global, text: &str) -> Result<Option<Whole>, NoMemory>
         ensures { IfOk result (λ found. spec.IsWhole text.now found) }
     {
@@ -217,11 +217,11 @@ fn add_type(alloc: Global, ty: &YangType, types: &mut Vec<Seq<Wholes>>) -> Resul
 
 /// The patterns of a schema, compiled: a list for each type, and in it one for each member of a union.
 ///
-/// They are seen as the texts of the patterns that are searched for. Those of older versions of the schema share them.
+/// A contract sees the texts of the patterns that are searched for. Older versions of the schema share them.
 #[derive(Drop)]
 pub struct Patterns {
     types: Arc<Vec<Seq<Wholes>>>,
-    /// How many of these types the schema has.
+    /// The number of these types.
     count: u32,
 }
 
@@ -236,8 +236,8 @@ impl Model for Patterns {
 impl Patterns {
     /// The patterns of the schema.
     ///
-    /// `Refused` names the first type that has a malformed pattern. A pattern that is too large for `regex` counts as want
-    /// of memory. It takes the time and memory that `regex` takes for each pattern.
+    /// `Refused` names the first type that has a malformed pattern. A pattern that is too large for `regex` counts as memory
+    /// that ran out. It takes the time and memory that `regex` takes for each pattern.
     pub fn of(alloc: Global, schema: &Schema) -> Result<Patterns, PatternsFault>
         ensures of_schema { IfOk result (λ patterns. patterns ≡ spec.patterns_of schema.now) }
         ensures formed { IfOk result (λ _. list_any spec.has_malformed schema.now.types ≡ false) }
@@ -252,9 +252,9 @@ impl Patterns {
         })
     }
 
-    /// The patterns of an older version of their schema, which share these: nothing is compiled.
+    /// The patterns of an older version of their schema, which shares these: nothing is compiled.
     ///
-    /// None where `newer`, the schema of these, does not extend `older`. It takes time linear in the older schema, and no memory.
+    /// None if `newer`, the schema of these, does not extend `older`. It takes time linear in the older schema, and no memory.
     pub fn of_older(&self, newer: &Schema, older: &Schema) -> Result<Option<Patterns>, NoMemory>
         requires { self.now ≡ spec.patterns_of newer.now }
         ensures { IfOk result (λ found. MatchOption found (Extends newer.now older.now → ⊥) (λ patterns. (patterns ≡ spec.patterns_of older.now) × Extends newer.now older.now)) }
@@ -267,7 +267,7 @@ impl Patterns {
         }
     }
 
-    // Those of an older version, which begin these.
+    // The patterns of an older version, a prefix of these.
     fn front(&self, older: &Schema) -> Result<Patterns, NoMemory>
         requires { BeginsWith self.now (spec.patterns_of older.now) }
         ensures { IfOk result (λ patterns. patterns ≡ spec.patterns_of older.now) }
@@ -279,7 +279,7 @@ impl Patterns {
         })
     }
 
-    /// Those of a type, member by member.
+    /// The patterns of a type, member by member.
     pub(crate) fn of_type(&self, ty: u32) -> &[Wholes]
         requires { ty < length self.now }
         ensures { slice_get self.now ty ≡ Some result.now }

@@ -18,7 +18,7 @@ use sal_types::{Atom, NoMemory, Value};
 use serde_json::Value as Json;
 use std::alloc::Global;
 
-/// What a member of a union takes of a text, in the form in which it is written.
+/// The value of a text for a member of a union, if the text is in the form in which that value is written.
 fn own_text(
     alloc: Global,
     schema: &Schema,
@@ -45,7 +45,7 @@ fn own_text(
     }
 }
 
-/// What a member of a union takes of a JSON value, in the form in which it is written.
+/// The value of a JSON value for a member of a union, if it is in the form in which that value is written.
 fn own_json(
     alloc: Global,
     schema: &Schema,
@@ -72,7 +72,7 @@ fn own_json(
     }
 }
 
-/// The value of the member of a union at this place.
+/// The value of the member of a union at this index.
 fn member_value(place: usize, atom: Atom) -> Value
     ensures { result ≡ spec.value_of place atom }
 {

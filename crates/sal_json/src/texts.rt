@@ -1,4 +1,4 @@
-//! Small words on the bytes of texts.
+//! Small functions on the bytes of texts.
 ghost use Rattle.std.specs.Prelude.{◌≡◌, ◌≤◌, ◌<◌, ◌+◌, length, ◌==◌};
 ghost use Rattle.std.specs.List.{list_all, position_or_len, before_first, after_first};
 ghost use Rattle.sal_json.specs.Numerals as spec;

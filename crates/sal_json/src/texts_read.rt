@@ -1,4 +1,4 @@
-//! Atoms of types that are no unions, from texts.
+//! Atoms of types that are not unions, from texts.
 ghost use Rattle.std.specs.Prelude.{◌≡◌, ◌<◌, IfOk, IsTrue, length, map, option_map};
 ghost use Rattle.sal_types.specs.Reading.{GivesUnless};
 ghost use Rattle.sal_restrict.specs.declared.yang_type.YangType.{out-YangType};
@@ -52,7 +52,7 @@ fn bool_atom(text: &str) -> Result<Atom, ScalarFault>
     }
 }
 
-/// The bytes that padded base64 writes, or none where the text is not in that form.
+/// The bytes of a padded base64 text, or none if the text is not in that form.
 fn bytes_of(alloc: Global, text: &str) -> Result<Option<Vec<u8>>, NoMemory>
     ensures { IfOk result (λ found. option_map (λ bytes. bytes.items) found ≡ spec.bytes_of text.now) }
 {

@@ -17,7 +17,7 @@ use sal_schema::Schema;
 use sal_types::{Atom, NoMemory, Str};
 use std::alloc::Global;
 
-/// How many bits a value of `bits` has.
+/// The number of bits of a value of `bits`.
 const BITS: u8 = 64;
 
 fn decimal_text(alloc: Global, number: u64) -> Result<String, NoMemory>
@@ -34,7 +34,7 @@ fn signed_text(alloc: Global, number: i64) -> Result<String, NoMemory>
     Ok(text)
 }
 
-/// The digits of a number with a point before the last so many.
+/// The digits of a number with a point before the last `digits`.
 fn with_point(alloc: Global, digits: u8, units: u64) -> Result<String, NoMemory>
     ensures { IfOk result (λ t. string_bytes t ≡ numerals.with_point digits units) }
 {
@@ -94,7 +94,7 @@ fn place_of_bit(positions: &[u8], bit: u8) -> Option<usize>
     positions.iter().position(|other| *other == bit)
 }
 
-/// The name at a place, if there is one.
+/// The name at an index, if there is one.
 fn name_there(names: &[Str], at: Option<usize>) -> &str
     ensures { result.now ≡ named.name_there names.now at }
 {
@@ -167,7 +167,7 @@ fn qualified(alloc: Global, module: &str, name: &str) -> Result<String, NoMemory
     Ok(text)
 }
 
-/// The name of an identity, with its module where that is another one.
+/// The name of an identity, with its module if that is another one.
 fn identity_text(
     alloc: Global,
     schema: &Schema,
@@ -254,7 +254,7 @@ fn member_at(members: &[YangType], member: u64) -> Option<&YangType>
     members.get(member as usize)
 }
 
-/// The type that a value is of: that of its member of a union, or the type itself.
+/// The type of a value: that of its member of a union, or the type itself.
 pub(crate) fn type_for(ty: &YangType, member: u64) -> Option<&YangType>
     ensures { option_map (λ t. out-YangType t.now) result ≡ spec.layer_for (out-YangType ty.now) member }
 {

@@ -8,13 +8,13 @@ pub fn what_is_read_is_json()
     ensures texts { TextsReadAsJson }
 {}
 
-/// The parts of such a value are such values.
+/// The members and elements of such a value are such values.
 pub fn parts_are_json()
     ensures members { MembersAreJson }
     ensures elements { ElementsAreJson }
 {}
 
-/// The test of such a value says so.
+/// The test of such a value is exact.
 pub fn json_is_tested()
     ensures { TestsJson }
 {}

@@ -1,33 +1,25 @@
 -- What kept commits say of two neighbours, and what their trees say of a part.
-use Rattle.std.proofs.Common.{◌≡◌, ℕ, suc, ◌+◌, ◌<◌, Bool, true, false, List, [], ◌∷◌, ◌++◌, length, take, get_or, Option, Some, None, refl, ap, sym, ◌∙◌, subst, arith, append-nil}
+use Rattle.std.proofs.Common.{◌≡◌, ℕ, ◌+◌, Bool, true, false, List, [], ◌∷◌, ◌++◌, Option, Some, None, refl, ap, sym, ◌∙◌, subst, append-nil}
 use Rattle.std.proofs.Math.Facts.{yes_eqb}
-use Rattle.std.specs.Prelude.{T, ◌==◌, slice_get}
-use Rattle.std.proofs.lemmas.List.{take_more}
-use Rattle.std.proofs.lemmas.List.Sums.{fold-append}
-use Rattle.std.proofs.lemmas.Option.{get_or_from_slice_get, slice_get_within}
+use Rattle.std.specs.Prelude.{T, ◌==◌}
 use Rattle.sal_types.specs.declared.value.Store.{Store}
 use Rattle.sal_types.specs.declared.value.Store.TheVariants.{Config, Oper}
 use Rattle.sal_types.specs.declared.value.Step.{Step}
 use Rattle.sal_types.specs.declared.row.Row.{Row}
 use Rattle.sal_rows.specs.declared.batch.Part.{Part}
 use Rattle.sal_rows.specs.declared.change.Change.{Change}
-use Rattle.sal_rows.specs.declared.op.Op.{Op}
-use Rattle.sal_rows.specs.Apply.{apply_ops}
 use Rattle.sal_rows.specs.Batches.{part, part_with, parts_after}
 use Rattle.sal_rows.specs.Changes.{changes_under}
-use Rattle.sal_rows.specs.Commits.{next_tree, tree_after}
 use Rattle.sal_rows.specs.Kinds.{kind_of}
 use Rattle.sal_rows.proofs.Patched.{parts-append}
 use Rattle.sal_node.specs.Tree.{Tree}
-use Rattle.sal_tree.specs.declared.commit.Commit.{Commit}
 use Rattle.sal_tree.specs.declared.commit.Pair.{Pair}
 use Rattle.sal_tree.specs.Alike.{alike}
 use Rattle.sal_tree.specs.Follows.{Agree}
 use Rattle.sal_tree.specs.Grow.{at}
 use Rattle.sal_tree.specs.Rows.{rows_of}
 use Rattle.sal_tree.specs.Whole.{IsWhole}
-use Rattle.sal_graft.specs.Kept.{AreKept, opening_in, ops_of, rows_in, tree_in}
-use Rattle.sal_graft.proofs.KeptLemmas.{ops_at}
+use Rattle.sal_graft.specs.Kept.{tree_in}
 use Rattle.sal_delta.specs.Agreed.{AgreeBoth}
 use Rattle.sal_delta.proofs.Exact.{alike-changes}
 use Rattle.sal_listen.specs.Given.{any_part, if_any, filled}
@@ -37,17 +29,6 @@ use Rattle.sal_listen.specs.Given.{any_part, if_any, filled}
 pub agree-in : (before after : Pair) (s : Store) → AgreeBoth before after → Agree (tree_in before s) (tree_in after s)
 agree-in before after Config both = both.0
 agree-in before after Oper both = both.1
-
--- the tree of a commit is that of the one before it after its operations
-pub next-tree : (kept : List Commit) (k : ℕ) (c d : Commit) (s : Store) → AreKept kept → k + 1 < length kept → c ≡ get_or kept k c → d ≡ get_or kept (k + 1) d → rows_in d.trees s ≡ apply_ops (rows_in c.trees s) s d.ops.value
-next-tree kept k c d s are inside at_c at_d =
-    let there : slice_get (ops_of kept) k ≡ Some d.ops.value = ops_at kept k d (omega (arith, inside)) (at_d ∙ ap (λ i. get_or kept i d) (let e : k + 1 ≡ suc k = omega arith in e)) in
-    let more : take (k + 1) (ops_of kept) ≡ take k (ops_of kept) ++ d.ops.value ∷ [] =
-    take_more (ops_of kept) k d.ops.value (slice_get_within (ops_of kept) k d.ops.value there) ∙ ap (λ (ops : List Op). take k (ops_of kept) ++ ops ∷ []) (get_or_from_slice_get (ops_of kept) k d.ops.value d.ops.value there) in
-    are.trees (k + 1) d s inside at_d
-    ∙ ap (tree_after s (opening_in kept s)) more
-    ∙ fold-append (next_tree s) (opening_in kept s) (take k (ops_of kept)) (d.ops.value ∷ [])
-    ∙ ap (λ (rows : List Row). apply_ops rows s d.ops.value) (sym (are.trees k c s (omega (arith, inside)) at_c))
 
 -- ---- a commit that left the tree as it was
 

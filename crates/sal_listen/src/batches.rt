@@ -1,4 +1,4 @@
-//! What a listener is given of the commits that came.
+//! The batches of a listener.
 ghost use Rattle.std.specs.Prelude.{◌≡◌, ◌+◌, ◌-◌, ◌<◌, ◌++◌, length, IfOk, OnOk};
 ghost use Rattle.sal_rows.specs.Apply.{apply_ops};
 ghost use Rattle.sal_rows.specs.Batches as spec;
@@ -15,18 +15,18 @@ use sal_tree::{Commit, tree_of};
 use sal_types::{NoMemory, Path, Seq, Store};
 use std::alloc::Global;
 
-/// What a listener looks at: a store, at a path and below it.
+/// The scope of a listener: a store, and all at and below a path.
 #[derive(Drop)]
 pub struct Listened<'a> {
     pub store: Store,
     pub path: &'a Path,
-    /// Whether the node at the path has a row of its own by its kind.
+    /// Whether the node at the path has its own row by its kind.
     pub own: bool,
 }
 
-/// What changed by each commit after `from`, up to the newest.
+/// The changes of each commit after `from`, up to the newest.
 ///
-/// `commits` are those of a domain, from its opening to the newest. A commit that left the store as it was costs one look
+/// `commits` are those of a domain, from its opening to the newest. A commit that did not change the store costs one look
 /// at two roots.
 pub fn batch(
     alloc: Global,
@@ -89,7 +89,7 @@ fn add_next(
     add_part(into, listened, &commit, number + 1)
 }
 
-// Puts the part of the commit at the end, which has this number, if it changed anything.
+// Appends the part of the commit, which has this number, if it changed anything.
 fn add_part(
     into: &mut Vec<Part>,
     listened: &Listened,
@@ -109,7 +109,7 @@ fn add_part(
     add_filled(into, part)
 }
 
-// What the commit changed, even if that is nothing.
+// The changes of the commit, even if there are none.
 fn part_of(
     alloc: Global,
     listened: &Listened,
@@ -130,7 +130,7 @@ fn part_of(
     })
 }
 
-// Puts the part at the end, if it has changes.
+// Appends the part, if it has changes.
 fn add_filled(into: &mut Vec<Part>, part: Part) -> Result<(), NoMemory>
     ensures { OnOk result (into.new.items ≡ into.old.items ++ filled part) }
 {

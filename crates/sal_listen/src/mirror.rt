@@ -1,4 +1,4 @@
-//! A copy of the rows that a listener looks at.
+//! A copy of a listener's rows.
 ghost use Rattle.std.specs.Prelude.{◌≡◌, ◌≢◌, ◌↔◌, ◌++◌, IsErrOf, IfOk, IfErr, OnOk, OnErr, map};
 ghost use Rattle.sal_rows.specs.Patch.{with_parts};
 ghost use Rattle.sal_listen.specs.Mirrors.{CarriesOn, patch_by, patches_in};
@@ -18,7 +18,7 @@ pub enum MirrorFault {
     NoMemory,
 }
 
-/// A copy of the rows that a listener looks at, with the number of the commit that they are of.
+/// A copy of a listener's rows, with the number of the commit that they are of.
 #[derive(Debug, Drop)]
 pub struct Mirror {
     version: u64,
@@ -26,7 +26,7 @@ pub struct Mirror {
 }
 
 impl Mirror {
-    /// The rows that the listener was opened with.
+    /// The rows of the listener's opening.
     pub fn open(opened: &Opened) -> Result<Mirror, NoMemory>
         ensures { IfOk result (λ m. m ≡ record { version = opened.now.version; rows = opened.now.rows }) }
     {
@@ -37,7 +37,7 @@ impl Mirror {
         })
     }
 
-    /// Advances to the end of the batch. A refused batch leaves the mirror as it was.
+    /// Advances to the end of the batch. After a refused batch the mirror is unchanged.
     pub fn take(&mut self, alloc: Global, batch: &Batch) -> Result<(), MirrorFault>
         ensures version { OnOk result (self.new.version ≡ batch.now.to) }
         ensures rows { OnOk result (self.new.rows ≡ with_parts self.old.rows batch.now.lists) }
@@ -74,7 +74,7 @@ impl Mirror {
     }
 }
 
-// Changes the rows by the parts of a batch, in place.
+// Applies the parts of a batch to the rows, in place.
 fn follow(alloc: Global, rows: &mut Rows, parts: &[Part]) -> Result<(), NoMemory>
     ensures ok { OnOk result (rows.new ≡ with_parts rows.old parts.now) }
     ensures err { OnErr result (rows.new ≡ rows.old) }
@@ -84,7 +84,7 @@ fn follow(alloc: Global, rows: &mut Rows, parts: &[Part]) -> Result<(), NoMemory
     Ok(())
 }
 
-// What the parts set, one after another.
+// The patches of the parts, one after another.
 fn all_patches(alloc: Global, parts: &[Part]) -> Result<Vec<Patch>, NoMemory>
     ensures { IfOk result (λ v. v.items ≡ patches_in parts.now) }
 {
@@ -95,7 +95,7 @@ fn all_patches(alloc: Global, parts: &[Part]) -> Result<Vec<Patch>, NoMemory>
     Ok(patches)
 }
 
-// Puts what the changes set at the end.
+// Appends the patches of the changes.
 fn add_patches(patches: &mut Vec<Patch>, list: &[Change]) -> Result<(), NoMemory>
     ensures { OnOk result (patches.new.items ≡ patches.old.items ++ map patch_by list.now) }
 {
@@ -106,7 +106,7 @@ fn add_patches(patches: &mut Vec<Patch>, list: &[Change]) -> Result<(), NoMemory
     Ok(())
 }
 
-// What a change sets.
+// The patch of a change.
 fn patch_by(change: &Change) -> Result<Patch, NoMemory>
     ensures { IfOk result (λ patch. patch ≡ patch_by change.now) }
 {

@@ -1,4 +1,4 @@
-//! What a listener is given when it is opened.
+//! The snapshot of a listener's opening.
 ghost use Rattle.std.specs.Prelude.{◌≡◌, ◌-◌, length, IfOk};
 ghost use Rattle.sal_rows.specs.Batches as spec;
 ghost use Rattle.sal_graft.specs.Kept.{AreKept};

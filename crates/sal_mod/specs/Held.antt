@@ -1,4 +1,4 @@
--- The operations of a list that is a transaction's own or shared.
+-- The operations of an owned or a shared list.
 use Rattle.std.specs.Prelude.{Bool, List}
 use Rattle.std.specs.List.{list_any}
 use Rattle.sal_rows.specs.declared.op.Op.{Op}

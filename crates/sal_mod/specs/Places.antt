@@ -1,4 +1,4 @@
--- Numbers by path, as a map with lists of steps for keys holds them.
+-- Numbers by path, as a map with lists of steps as keys.
 use Rattle.std.specs.Prelude.{ℕ, List, [], ◌∷◌}
 use Rattle.std.specs.declared.vec.Vec.{Vec}
 use Rattle.std.specs.declared.alloc.Global.{Global}

@@ -20,7 +20,7 @@ use std::sync::Arc;
 #[derive(Drop)]
 pub struct Mod {
     list: Held,
-    /// Nothing while the operations are few.
+    /// None while the operations are few.
     covers: Option<Covers>,
     /// Whether one of them is a read.
     has_reads: bool,
@@ -41,7 +41,7 @@ impl Model for Mod {
 }
 
 impl Mod {
-    /// No operation yet. It takes no memory.
+    /// No operations. It takes no memory.
     pub fn new(alloc: Global) -> Mod
         ensures { result ≡ [] }
     {
@@ -52,7 +52,7 @@ impl Mod {
         }
     }
 
-    /// Puts an operation at the end. For want of memory it is given back, and the others stay as they are.
+    /// Appends an operation. If memory runs out, the operation is returned, and the others are unchanged.
     pub fn add(&mut self, alloc: Global, op: Op) -> Result<(), (Op, NoMemory)>
         ensures ok { OnOk result (self.new ≡ self.old ++ op ∷ []) }
         ensures returned { IfErr result (λ e. e.0 ≡ op) }
@@ -78,7 +78,7 @@ impl Mod {
         self.list.ops()
     }
 
-    /// Their list, which the log and a commit may have too: no copy of it is made. An operation that is added later is added to a copy.
+    /// Their list, to be shared with the log and a commit: no copy of it is made. An operation that is added later is added to a copy.
     pub fn share(&mut self, alloc: Global) -> Result<Arc<Ops>, NoMemory>
         ensures same { self.new ≡ self.old }
         ensures list { IfOk result (λ list. list.value ≡ self.old) }
@@ -93,7 +93,7 @@ impl Mod {
         self.list.list(alloc)
     }
 
-    /// Whether an operation of the store before the place is a put or delete at a path that this one begins with. It
+    /// Whether an operation of the store before the index is a put or delete at a prefix of the path. It
     /// takes no memory.
     pub fn covered(&self, store: Store, path: &Path, before: usize) -> bool
         ensures { result ≡ is_covered store self.now path.now before }
@@ -111,8 +111,8 @@ impl Mod {
         self.has_reads
     }
 
-    /// Whether one more read of the path in the store adds nothing: one of the operations puts, deletes or reads a path that this one
-    /// begins with. It takes no memory.
+    /// Whether another read of the path in the store adds nothing: one of the operations puts, deletes or reads a prefix of it.
+    /// It takes no memory.
     pub fn knows(&self, store: Store, path: &Path) -> bool
         ensures { result ≡ is_known self.now store path.now }
     {
@@ -132,7 +132,7 @@ impl Mod {
     }
 }
 
-// Puts an operation at the end of the list. For want of memory it is given back, and the others stay as they are.
+// Appends an operation to the list. If memory runs out, the operation is returned, and the others are unchanged.
 fn add_to(
     alloc: Global,
     list: &mut Vec<Op>,
@@ -158,7 +158,7 @@ fn add_to(
     }
 }
 
-// Makes room for one operation more: for the first one alone, as most transactions have just one.
+// Makes room for one more operation: exactly one if the list is empty, as most transactions have just one.
 fn make_room(list: &mut Vec<Op>) -> Result<(), AllocError>
     ensures items { list.new.items ≡ list.old.items }
     ensures len { vec_len list.new ≡ vec_len list.old }
@@ -171,7 +171,7 @@ fn make_room(list: &mut Vec<Op>) -> Result<(), AllocError>
     }
 }
 
-// The operations before the place.
+// The operations before the index.
 fn first_of(ops: &[Op], before: usize) -> &[Op]
     ensures { result.now ≡ take before ops.now }
 {

@@ -1,4 +1,4 @@
-//! The places of the first puts, deletes and reads at a path, by which a path that they stand over is found.
+//! The index of the first put or delete at each path, and of the first read, for look-ups by prefix.
 ghost use Rattle.std.specs.Prelude.{◌≡◌, ◌++◌, ◌∷◌, [], IfOk, OnOk, OnErr};
 ghost use Rattle.std.specs.List.{list_any};
 ghost use Rattle.sal_rows.specs.Apply.{is_read};
@@ -10,10 +10,10 @@ use sal_rows::{Op, same_store};
 use sal_types::{NoMemory, Path, Store};
 use std::alloc::Global;
 
-/// No more operations than these are looked at one by one.
+/// Up to this number the operations are searched one by one.
 const FEW: usize = 8;
 
-/// The place of the first put or delete at each path, and that of the first read.
+/// The index of the first put or delete at each path, and that of the first read.
 #[derive(Drop)]
 pub(crate) struct Covers {
     pub(crate) writes: Firsts,
@@ -30,7 +30,7 @@ impl Covers {
         }
     }
 
-    /// Whether an operation of the store before the place is a put or delete at a path that this one begins with. It
+    /// Whether an operation of the store before the index is a put or delete at a prefix of the path. It
     /// takes no memory.
     pub(crate) fn is_covered(&self, ops: &[Op], store: Store, path: &Path, before: usize) -> bool
         requires { AreFirst ops.now self.now }
@@ -39,7 +39,7 @@ impl Covers {
         self.writes.is_early(store, path, before)
     }
 
-    /// Whether an operation of the store reads a path that this one begins with. It takes no memory.
+    /// Whether an operation of the store reads a prefix of the path. It takes no memory.
     pub(crate) fn was_read(&self, ops: &[Op], store: Store, path: &Path) -> bool
         requires { AreFirst ops.now self.now }
         ensures { result ≡ list_any (spec.stands_over is_read store path.now) ops.now }
@@ -47,7 +47,7 @@ impl Covers {
         self.reads.is_early(store, path, ops.len())
     }
 
-    /// Notes the operation that comes behind these. For want of memory nothing changes.
+    /// Records the operation that follows these. If memory runs out, nothing changes.
     fn note_behind(&mut self, alloc: Global, ops: &[Op], op: &Op) -> Result<(), NoMemory>
         requires { AreFirst ops.now self.old }
         ensures ok { OnOk result (AreFirst (ops.now ++ op.now ∷ []) self.new) }
@@ -63,7 +63,7 @@ impl Covers {
     }
 }
 
-/// Notes the operation that comes behind these, if it is not among the few. For want of memory nothing changes.
+/// Records the operation that follows these, if it is not among the few. If memory runs out, nothing changes.
 pub(crate) fn note_next(
     alloc: Global,
     covers: &mut Option<Covers>,
@@ -86,7 +86,7 @@ pub(crate) fn note_next(
     }
 }
 
-// The places of these operations and one more.
+// The indexes of these operations and one more.
 fn with_next(alloc: Global, ops: &[Op], op: &Op) -> Result<Covers, NoMemory>
     ensures { IfOk result (λ covers. AreFirst (ops.now ++ op.now ∷ []) covers) }
 {
@@ -118,7 +118,7 @@ fn covers_path(op: &Op, store: Store, path: &Path) -> bool
     same_store(op.store, store) && (op.act.checks_path() && op.path.is_prefix_of(path))
 }
 
-/// Whether one of the operations reads a path that this one begins with. It takes no memory.
+/// Whether one of the operations reads a prefix of the path. It takes no memory.
 pub(crate) fn any_reads(ops: &[Op], store: Store, path: &Path) -> bool
     ensures { result ≡ list_any (spec.stands_over is_read store path.now) ops.now }
 {

@@ -1,4 +1,4 @@
-//! The places of the first operations at their paths, for both stores.
+//! The indexes of the first operations at their paths, for both stores.
 ghost use Rattle.std.specs.Prelude.{◌≡◌, ◌&&◌, [], List, OnOk, OnErr};
 ghost use Rattle.std.specs.FinMap.{find};
 ghost use Rattle.sal_types.specs.Order.{path_cmp, path_eq};
@@ -13,7 +13,7 @@ use sal_rows::Op;
 use sal_types::{NoMemory, Path, Step, Store};
 use std::alloc::Global;
 
-/// The place of the first operation at each path, by store.
+/// The index of the first operation at each path, by store.
 #[derive(Drop)]
 pub(crate) struct Firsts {
     pub(crate) config: Places,
@@ -21,7 +21,7 @@ pub(crate) struct Firsts {
 }
 
 impl Firsts {
-    /// No place yet. It takes no memory.
+    /// No indexes. It takes no memory.
     pub(crate) fn new(alloc: Global) -> Firsts
         ensures { (s : StoreOf) → places_in result s ≡ [] }
     {
@@ -31,7 +31,7 @@ impl Firsts {
         }
     }
 
-    /// Whether a place before this one is noted in the store, at a path that this one begins with. It takes no memory.
+    /// Whether the store has an index less than `before` at a prefix of the path. It takes no memory.
     pub(crate) fn is_early(&self, store: Store, path: &Path, before: usize) -> bool
         ensures { result ≡ any_prefix (λ q. is_early before (find path_cmp q (places_in self.now store))) path.now }
     {
@@ -41,7 +41,7 @@ impl Firsts {
         }
     }
 
-    /// Notes the place of the operation, if none is noted at its path. For want of memory nothing changes.
+    /// Records the index of the operation, unless its path has one. If memory runs out, nothing changes.
     pub(crate) fn note(&mut self, alloc: Global, op: &Op, place: usize) -> Result<(), NoMemory>
         ensures ok { OnOk result ((s : StoreOf) (p : List Step) → find path_cmp p (places_in self.new s) ≡ noted s op.now place p (find path_cmp p (places_in self.old s))) }
         ensures err { OnErr result (self.new ≡ self.old) }
@@ -53,7 +53,7 @@ impl Firsts {
     }
 }
 
-// Notes the place at the path, if none is noted there.
+// Records the index at the path, unless it has one.
 fn note_at(alloc: Global, places: &mut Places, steps: &[Step], place: usize) -> Result<(), NoMemory>
     ensures ok { OnOk result ((p : List Step) → find path_cmp p places.new ≡ noted_at steps.now place p (find path_cmp p places.old)) }
     ensures err { OnErr result (places.new ≡ places.old) }
@@ -65,7 +65,7 @@ fn note_at(alloc: Global, places: &mut Places, steps: &[Step], place: usize) -> 
     Ok(())
 }
 
-// Whether the number at the steps, or at the first of them, is less than `before`.
+// Whether the number at the steps is less than `before`, or that at a prefix of them.
 fn is_early_on(places: &Places, steps: &[Step], before: usize) -> bool
     ensures { result ≡ any_prefix (λ q. is_early before (find path_cmp q places.now)) steps.now }
 {

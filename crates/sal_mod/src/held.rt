@@ -1,4 +1,4 @@
-//! The list of a transaction's operations: its own, or one that it shares.
+//! The list of a transaction's operations: owned or shared.
 ghost use Rattle.std.specs.Prelude.{◌≡◌, IfOk, OnErr};
 ghost use Rattle.sal_mod.specs.Held.{held};
 
@@ -26,7 +26,7 @@ impl Held {
         }
     }
 
-    /// Takes the operations out, as a list of their own. It copies them if they are shared.
+    /// Takes the operations out, as an owned list. It copies them if they are shared.
     pub(crate) fn take(&mut self, alloc: Global) -> Result<Vec<Op>, NoMemory>
         ensures list { IfOk result (λ list. list.items ≡ held self.old) }
         ensures err { OnErr result (held self.new ≡ held self.old) }
@@ -37,7 +37,7 @@ impl Held {
         }
     }
 
-    /// Gives the list, which is shared from now on, and no copy of it.
+    /// Returns the list, which is shared from now on, without a copy.
     pub(crate) fn share(&mut self, alloc: Global) -> Result<Arc<Ops>, NoMemory>
         ensures same { held self.new ≡ held self.old }
         ensures list { IfOk result (λ list. list.value ≡ held self.old) }

@@ -41,7 +41,7 @@ impl Places {
         self.map.get(steps).copied()
     }
 
-    /// Puts the number at the path, in place of another one.
+    /// Sets the number at the path, and replaces an earlier one.
     pub(crate) fn set(
         &mut self,
         alloc: Global,

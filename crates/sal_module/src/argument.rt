@@ -28,9 +28,9 @@ pub enum Form {
     Inversion,
     /// A whole number without a sign.
     Whole,
-    /// One below 2^32.
+    /// A whole number below 2^32, without a sign.
     Count,
-    /// One from 1 to 2^32 - 1, or `unbounded`.
+    /// A whole number from 1 to 2^32 - 1, or `unbounded`.
     Limit,
     /// A whole number from -2^31 to 2^31 - 1.
     Integer,
@@ -38,7 +38,7 @@ pub enum Form {
 
 const CAP: u64 = 4_294_967_296;
 
-/// The number that these digits write, or 2^32 where it is greater.
+/// The value of these digits, or 2^32 if it is greater.
 pub(crate) fn decimal(digits: &[u8]) -> u64
     ensures { result ≡ min 4294967296 (spec.decimal digits.now) }
 {

@@ -1,4 +1,4 @@
-//! The faults of modules, and which of many counts.
+//! The faults of modules, and which of several is returned.
 ghost use Rattle.std.specs.Prelude.{◌≡◌, IfOk};
 ghost use Rattle.sal_module.specs.declared.fault.BuildFault.TheVariants.{NoMemory};
 ghost use Rattle.sal_module.specs.Faults as spec;
@@ -8,7 +8,7 @@ use sal_types::Str;
 use std::alloc::{AllocError, AllocFailed, Global};
 use thiserror::Error;
 
-/// What there are too many of.
+/// What exceeds its limit.
 #[derive(Clone, Copy, Debug)]
 pub enum What {
     /// Modules: more than 64.
@@ -17,50 +17,50 @@ pub enum What {
     Nodes,
 }
 
-/// Why modules are no schema. `module` counts them from 0 in the order given, and `at` is how many bytes of its text stand
-/// before the statement concerned.
+/// Why modules give no schema. `module` is the index of the module in the order given, and `at` the byte offset of the
+/// statement in its text.
 #[derive(Debug, Drop, Error)]
 pub enum BuildFault {
-    /// A statement that may not stand where it stands.
+    /// A statement that is not allowed in its parent.
     #[error("unknown statement in module {module} at byte {at}")]
     UnknownStatement { module: u32, at: u32 },
-    /// A statement of YANG that the profile leaves out.
+    /// A statement of YANG that the profile does not support.
     #[error("left out in module {module} at byte {at}")]
     LeftOut { module: u32, at: u32 },
     /// A statement that must have a substatement of this keyword has none.
     #[error("missing statement `{}` in module {module} at byte {at}", .keyword.as_str())]
     Missing { module: u32, at: u32, keyword: Str },
-    /// The second of two substatements, where one may stand.
+    /// A second substatement of a keyword that is allowed once.
     #[error("second statement `{}` in module {module} at byte {at}", .keyword.as_str())]
     Twice { module: u32, at: u32, keyword: Str },
-    /// An argument that is missing, unwanted or not of its form, or an import's prefix that the module has already.
+    /// An argument that is missing, not allowed or of the wrong form, or an import's prefix that the module already has.
     #[error("bad argument in module {module} at byte {at}")]
     BadArgument { module: u32, at: u32 },
     /// An import of a module that was not given.
     #[error("no module in module {module} at byte {at}")]
     NoModule { module: u32, at: u32 },
-    /// The first import of a module that reaches itself by imports.
+    /// The first import of a module that imports itself, directly or through others.
     #[error("import cycle in module {module} at byte {at}")]
     ImportCycle { module: u32, at: u32 },
-    /// A name with an unknown prefix, or that nothing defines.
+    /// A name with an unknown prefix, or a name without a definition.
     #[error("unknown name in module {module} at byte {at}")]
     UnknownName { module: u32, at: u32 },
-    /// A name that rests on itself.
+    /// A name whose definition depends on itself.
     #[error("name cycle in module {module} at byte {at}")]
     NameCycle { module: u32, at: u32 },
-    /// The later of two of one name, where names differ.
+    /// The later of two definitions of one name, where names must differ.
     #[error("second node in module {module} at byte {at}")]
     DoubleNode { module: u32, at: u32 },
-    /// A restriction that is no restriction of its type, or widens it.
+    /// A restriction that its type does not allow, or that is wider than that of its type.
     #[error("bad restriction in module {module} at byte {at}")]
     BadRestriction { module: u32, at: u32 },
     /// A pattern that is malformed.
     #[error("bad pattern in module {module} at byte {at}")]
     BadPattern { module: u32, at: u32 },
-    /// A key, or a `unique`, that names no leaf as it must.
+    /// A key, or a `unique`, that does not name leafs as required.
     #[error("bad key in module {module} at byte {at}")]
     BadKey { module: u32, at: u32 },
-    /// Configuration below state.
+    /// Configuration below state data.
     #[error("config under state in module {module} at byte {at}")]
     ConfigUnderState { module: u32, at: u32 },
     /// An augment or a path whose target does not exist or does not fit.
@@ -69,7 +69,7 @@ pub enum BuildFault {
     /// The `base` of an identity of a later version's module, which names an identity of an earlier version.
     #[error("old identity in module {module} at byte {at}")]
     OldIdentity { module: u32, at: u32 },
-    /// More modules or nodes than are taken.
+    /// More modules or nodes than the limit.
     #[error("too many")]
     TooMany { what: What },
     /// Memory ran out.
@@ -101,7 +101,7 @@ impl From<sal_types::NoMemory> for BuildFault {
     }
 }
 
-/// What is wrong with a statement.
+/// The kind of a fault.
 #[derive(Clone, Copy)]
 pub enum Cause {
     UnknownStatement,
@@ -125,16 +125,16 @@ pub enum Cause {
 /// A fault with its place.
 #[derive(Clone, Copy)]
 pub struct Found {
-    /// What is wrong.
+    /// Its kind.
     pub cause: Cause,
     /// The number of the module.
     pub module: u32,
-    /// The byte at which the statement stands.
+    /// The byte offset of the statement.
     pub at: u32,
 }
 
 impl Cause {
-    /// The number by which faults of one statement are ordered.
+    /// The number that orders faults of one statement.
     pub fn number(self) -> u8
         ensures { result ≡ spec.number_of self }
     {
@@ -167,8 +167,8 @@ fn is_before(a: Found, b: Found) -> bool
             && (a.at < b.at || (a.at == b.at && a.cause.number() < b.cause.number())))
 }
 
-/// The one of the two that counts: the smaller module, then the smaller place, then the smaller number, and of equals the
-/// earlier found.
+/// The first of the two: the one with the smaller module, then the smaller offset, then the smaller number; of equals the
+/// one found earlier.
 pub fn better(best: Option<Found>, found: Found) -> Option<Found>
     ensures { result ≡ spec.better best found }
 {
@@ -185,7 +185,7 @@ pub fn better(best: Option<Found>, found: Found) -> Option<Found>
 }
 
 impl Found {
-    /// The fault as callers get it.
+    /// The fault as `BuildFault`.
     pub fn fault(self, alloc: Global) -> Result<BuildFault, sal_types::NoMemory>
         ensures { IfOk result (λ fault. fault ≡ spec.fault_of self) }
     {

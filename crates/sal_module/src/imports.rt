@@ -1,4 +1,4 @@
-//! Modules by their names, and what they import.
+//! Modules by name, and their imports.
 ghost use Rattle.std.specs.Prelude.{◌≡◌, ◌==◌, ◌^◌, ◌<◌, ◌≤◌, length, IfOk, IfSome};
 ghost use Rattle.std.specs.List.{list_any, flat_map};
 ghost use Rattle.sal_module.specs.Faults.{least};
@@ -20,7 +20,7 @@ fn position_of(stmts: &[Stmt], name: &str) -> Option<usize>
     stmts.iter().position(|stmt| argument_of(stmt) == name)
 }
 
-/// The number of the first module of this name.
+/// The index of the first module of this name.
 pub(crate) fn place_of(stmts: &[Stmt], name: &str) -> Option<u32>
     requires { length stmts.now < 2 ^ 32 }
     ensures { result ≡ spec.place_of stmts.now name.now }
@@ -37,7 +37,7 @@ fn has_name(stmts: &[Stmt], name: &str) -> bool
     stmts.iter().any(|stmt| argument_of(stmt) == name)
 }
 
-/// With the fault of a module whose name was given before.
+/// Adds the fault of a module whose name an earlier one has.
 pub(crate) fn with_name(
     best: Option<Found>,
     stmts: &[Stmt],
@@ -65,7 +65,7 @@ fn with_given(best: Option<Found>, stmts: &[Stmt], number: u32, one: &Stmt) -> O
     }
 }
 
-/// With the faults of imports of modules that were not given.
+/// Adds the faults of imports of modules that were not given.
 pub(crate) fn with_all_given(
     best: Option<Found>,
     stmts: &[Stmt],
@@ -124,7 +124,7 @@ pub(crate) fn edges_of(alloc: Global, stmts: &[Stmt]) -> Result<Vec<Vec<usize>>,
     Ok(edges)
 }
 
-/// The least of this fault and that of a module that reaches itself, at its first import.
+/// The first of this fault and that of a module that imports itself, at its first import.
 pub(crate) fn with_cycle(
     best: Option<Found>,
     alloc: Global,

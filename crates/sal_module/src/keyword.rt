@@ -3,7 +3,7 @@ ghost use Rattle.std.specs.Prelude.{◌≡◌, map, IfSome};
 ghost use Rattle.sal_stmt.specs.Words as bytes;
 ghost use Rattle.sal_module.specs.Keywords as spec;
 
-/// A keyword of YANG that the profile has. RFC 7950 section 7 has the statement of each.
+/// A keyword of YANG in the profile. RFC 7950 section 7 defines the statement of each.
 #[derive(Clone, Copy, PartialEq, Eq)]
 pub enum Keyword {
     Module,
@@ -65,7 +65,7 @@ pub enum Keyword {
     Position,
 }
 
-/// Each keyword beside its word.
+/// Each keyword with its spelling.
 pub const WORDS: [(&str, Keyword); 57] = [
     ("module", Keyword::Module),
     ("yang-version", Keyword::YangVersion),
@@ -126,7 +126,7 @@ pub const WORDS: [(&str, Keyword); 57] = [
     ("position", Keyword::Position),
 ];
 
-// The words by their first byte.
+// The spellings by their first byte.
 
 const WITH_A: &[(&str, Keyword)] = &[("augment", Keyword::Augment)];
 
@@ -250,7 +250,7 @@ fn find_text(words: &[(&'static str, Keyword)], keyword: Keyword) -> &'static st
     ""
 }
 
-/// The words that begin with this byte, where there are some.
+/// The spellings that begin with this byte, if any.
 #[tactic(auto, unfolding(crate::specs::Keywords::words))]
 fn words_with(first: u8) -> Option<&'static [(&'static str, Keyword)]>
     ensures { IfSome result (λ some. map spec.word_view some.now ≡ spec.words_with first) }
@@ -293,7 +293,7 @@ fn first_of(text: &str) -> u8
     first(text.as_bytes())
 }
 
-/// Among all words.
+/// Looks through all spellings.
 #[tactic(auto, unfolding(crate::specs::Keywords::keyword_of))]
 fn find_any(text: &str) -> Option<Keyword>
     ensures { result ≡ spec.keyword_of text.now }
@@ -301,7 +301,7 @@ fn find_any(text: &str) -> Option<Keyword>
     find_word(&WORDS, text)
 }
 
-/// The keyword of this word. A word with a prefix, or one that the profile does not have, has none.
+/// The keyword with this spelling. None for a text with a prefix, and for a keyword that the profile does not have.
 pub fn keyword_of(text: &str) -> Option<Keyword>
     ensures { result ≡ spec.keyword_of text.now }
 {
@@ -312,7 +312,7 @@ pub fn keyword_of(text: &str) -> Option<Keyword>
 }
 
 impl Keyword {
-    /// The word of this keyword.
+    /// The spelling of this keyword.
     #[tactic(auto, unfolding(crate::specs::Keywords::word_of))]
     pub fn word(self) -> &'static str
         ensures { result.now ≡ spec.word_of self }
@@ -353,7 +353,7 @@ impl Keyword {
         }
     }
 
-    /// The same, by the second part of the words first.
+    /// The same; it looks through the second part of the spellings first.
     #[tactic(auto, unfolding(crate::specs::Keywords::word_of))]
     fn later_word(self) -> &'static str
         ensures { result.now ≡ spec.word_of self }

@@ -1,4 +1,4 @@
-//! What the profile leaves out by an argument, or by a statement that is not there.
+//! What the profile does not support because of an argument, or of a missing statement.
 ghost use Rattle.std.specs.Prelude.{◌≡◌, ◌^◌, ◌<◌, ◌≤◌, ◌&&◌, nat_lt, min, option_map, drop, length};
 ghost use Rattle.std.specs.List.{prefix_len};
 ghost use Rattle.sal_stmt.specs.Words as words;
@@ -50,7 +50,7 @@ fn starts_call(text: &[u8]) -> bool
     first(&rest[blank_len(rest)..]) == b'('
 }
 
-/// Whether the function `deref` is called in a path.
+/// Whether a path calls the function `deref`.
 fn calls_deref(path: &[u8]) -> bool
     ensures { result ≡ spec.calls_deref path.now }
 {
@@ -100,7 +100,7 @@ fn is_past_the_last_bit(stmt: &Stmt) -> bool
     is_named(Keyword::Position, stmt) && is_high_position(argument_of(stmt).as_bytes())
 }
 
-/// Whether the profile leaves this statement out, wherever it stands.
+/// Whether the profile does not support this statement, wherever it is.
 pub(crate) fn is_left_out(stmt: &Stmt) -> bool
     ensures { result ≡ spec.is_left_out stmt.now }
 {
@@ -111,7 +111,7 @@ pub(crate) fn is_left_out(stmt: &Stmt) -> bool
         || is_past_the_last_bit(stmt)
 }
 
-/// The position that a bit states, or 2^32 where it is greater.
+/// The position that a bit states, or 2^32 if it is greater.
 fn stated(bit: &Stmt) -> Option<u64>
     ensures { result ≡ option_map (min 4294967296) (spec.stated bit.now) }
 {
@@ -121,7 +121,7 @@ fn stated(bit: &Stmt) -> Option<u64>
     }
 }
 
-/// One more than the highest position so far, or 64 where it is greater.
+/// One more than the highest position so far, or 64 if that is greater.
 fn next_position(next: u64, position: Option<u64>) -> u64
     requires { next ≤ 64 }
     ensures value { result ≡ min 64 (spec.next_position next position) }
@@ -150,7 +150,7 @@ fn with_implied(best: Option<Found>, number: u32, next: u64, bit: &Stmt) -> Opti
     }
 }
 
-/// The least of this fault and those of bits whose implied position is past 63.
+/// The first of this fault and those of bits with an implied position above 63.
 pub(crate) fn with_bits(best: Option<Found>, number: u32, subs: &[Stmt]) -> Option<Found>
     ensures { result ≡ least best (spec.bit_faults number 0 subs.now) }
 {

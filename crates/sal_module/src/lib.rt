@@ -1,21 +1,21 @@
-//! Modules within the statement profile, which import one another: what stands between texts and a schema.
+//! Modules of the profile with their imports: the first check between texts and a schema.
 //!
 //! | item | what it is |
 //! |---|---|
-//! | `check` | the modules, where they are within the profile and their imports name modules, or the first fault |
-//! | `check_owned` | the same of statements that are handed over |
-//! | `Modules` | modules that passed, seen as the list of their statements, with look-ups by place and by prefix |
-//! | `BuildFault` | every fault of a schema that is built from modules, each with its module and place |
-//! | `Cause`, `Found`, `better` | what is wrong, where, and which of two faults counts: for the later passes |
-//! | `Keyword`, `keyword_of` | the keywords of the profile, and their words |
-//! | `TABLE`, `Rule`, `Row`, `Entry`, `Often`, `Form` | the profile itself: what may stand in each statement |
-//! | `reaching`, `is_marked` | which items of a list reach another one, where each names some of them |
+//! | `check` | the modules, if they are within the profile and their imports name modules, or the first fault |
+//! | `check_owned` | the same for statements that the modules then own |
+//! | `Modules` | checked modules, seen as the list of their statements, with look-ups by offset and by prefix |
+//! | `BuildFault` | every fault of building a schema from modules, with its module and offset |
+//! | `Cause`, `Found`, `better` | the kind of a fault, a fault with its place, and the first of two faults: for the later passes |
+//! | `Keyword`, `keyword_of` | the keywords of the profile, and their spellings |
+//! | `TABLE`, `Rule`, `Row`, `Entry`, `Often`, `Form` | the profile itself: the substatements that each statement may have |
+//! | `reaching`, `is_marked` | which items of a list reach a target, if each names some of the others |
 //! | `is_named`, `argument_of`, `first_named`, `has_named`, `value_of` | statements by their keywords |
 //!
-//! The profile is the part of YANG (RFC 7950) that the broker takes: `src/table.rt` is its table, in the groups of the
-//! standard. Submodules, deviations, actions, `anydata`, `anyxml` and a few more are left out. Statements with a prefix
-//! may stand anywhere and have no effect. Every fault of a pass is a member of one list, in any order, and the least
-//! by module, place and number counts: `specs/Profile.antt` has the lists of the profile, `specs/Imports.antt` those of
+//! The profile is the part of YANG (RFC 7950) that the broker supports: `src/table.rt` is its table, in the order of the
+//! standard. Submodules, deviations, actions, `anydata`, `anyxml` and a few more are not in it. Statements with a prefix
+//! may be anywhere and have no effect. A pass collects its faults in one list, in any order, and returns the least
+//! by module, offset and number: `specs/Profile.antt` has the lists of the profile, `specs/Imports.antt` those of
 //! names and imports, `specs/Faults.antt` the order.
 //!
 //! ```
@@ -25,10 +25,10 @@
 //! let own = modules.imported(0, "p");  // Some(0)
 //! ```
 //!
-//! Cost: both checks take time linear in the statements, times the words of the table, and the logarithm of the imports for
+//! Cost: both checks take time linear in the statements, times the size of the table, and the logarithm of the imports for
 //! each import; `check` copies the statements. 64 modules are compared with one another 64 times. `Modules::stmt` takes the
-//! logarithm of the statements for each level, and `Modules::imported` that of the imports. At most 65 calls stand in one
-//! another.
+//! logarithm of the statements for each level, and `Modules::imported` that of the imports. Recursion is at most 65 calls
+//! deep.
 #![tactic(auto)]
 
 mod argument;

@@ -1,4 +1,4 @@
-//! Modules that passed the profile and know what they import.
+//! Modules within the profile whose imports are resolved.
 ghost use Rattle.std.specs.Prelude.{◌≡◌, ◌<◌, ◌≤◌, ◌^◌, ◌∷◌, [], ℕ, List, length, IfOk, unwrap_or, None};
 ghost use Rattle.std.specs.List.{list_all};
 ghost use Rattle.std.specs.Option.{option_copied};
@@ -20,13 +20,13 @@ use sal_types::NoMemory;
 use std::alloc::Global;
 use std::marker::Model;
 
-/// The most modules that are taken.
+/// The largest number of modules.
 const MAX_MODULES: usize = 64;
 
-/// How deep the blocks of a statement may be open in one another.
+/// The largest depth of nested blocks of a statement.
 const MAX_BLOCKS: u32 = 64;
 
-/// Modules that passed the profile and import one another without a cycle. They are seen as the list of their statements.
+/// Modules within the profile, whose imports have no cycle. A contract sees the list of their statements.
 #[derive(Drop)]
 pub struct Modules {
     list: Vec<Stmt>,
@@ -69,7 +69,7 @@ fn all_in_order(stmts: &[Stmt]) -> bool
         .all(|stmt| is_in_order(MAX_BLOCKS, LAST_PLACE, stmt))
 }
 
-/// The prefixes of a module, and the least of this fault and those of its name and imports.
+/// The prefixes of a module, and the first of this fault and those of its name and imports.
 fn with_imports(
     best: Option<Found>,
     alloc: Global,
@@ -109,7 +109,7 @@ fn graph(alloc: Global, stmts: &[Stmt]) -> Result<(Vec<Prefixes>, Option<Found>)
     Ok((all, best))
 }
 
-/// The prefixes of each module, or the first fault: that of the profile, or else that of names and imports.
+/// The prefixes of each module, or the first fault: of the profile, or, if it has none, of names and imports.
 fn passed(alloc: Global, stmts: &[Stmt]) -> Result<Vec<Prefixes>, BuildFault>
     ensures given { GivesUnless BuildFault.NoMemory (λ _. stmts.now) result (spec.check stmts.now) }
     ensures few { IfOk result (λ _. length stmts.now < 65) }
@@ -146,10 +146,10 @@ fn indexed(list: Vec<Stmt>, prefixes: Vec<Prefixes>) -> Modules
     }
 }
 
-/// The modules, where they are within the profile and their imports name modules and go in no circle.
+/// The modules, if they are within the profile and their imports name modules and have no cycle.
 ///
-/// The first fault is that of the profile, or else that of names and imports; within either, that with the smallest
-/// module, then the smallest place, then the smallest number. More than 64 modules are `TooMany` before anything else.
+/// The first fault is of the profile, or, if it has none, of names and imports; within either, the fault with the smallest
+/// module, then the smallest offset, then the smallest number. More than 64 modules are `TooMany`, before any other fault.
 /// The statements are copied.
 pub fn check(alloc: Global, stmts: &[Stmt]) -> Result<Modules, BuildFault>
     ensures { GivesUnless BuildFault.NoMemory (λ modules. modules) result (spec.check stmts.now) }
@@ -159,7 +159,7 @@ pub fn check(alloc: Global, stmts: &[Stmt]) -> Result<Modules, BuildFault>
     Ok(indexed(list, prefixes))
 }
 
-/// The same of statements that the modules keep: none is copied.
+/// The same for statements that the modules then own: none is copied.
 pub fn check_owned(alloc: Global, stmts: Vec<Stmt>) -> Result<Modules, BuildFault>
     ensures { GivesUnless BuildFault.NoMemory (λ modules. modules) result (spec.check stmts.items) }
 {
@@ -199,17 +199,17 @@ impl Modules {
         &self.list
     }
 
-    /// The statement that begins at this byte of a module, or none where none begins there.
+    /// The statement at this byte offset of a module, or none if no statement begins there.
     ///
-    /// Where the statements stand in order, as those that were read from a text do, each level takes the logarithm of its
-    /// statements; else all of them are looked through.
+    /// If the offsets of the statements ascend, as those read from a text do, the search takes the logarithm of the
+    /// statements of each level; else it looks through all of them.
     pub fn stmt(&self, module: u32, at: u32) -> Option<&Stmt>
         ensures { option_copied result ≡ spec.stmt_at self.now «module» at }
     {
         stmt_of(&self.list, self.in_order, module, at)
     }
 
-    /// The number of the module that a prefix names in a module, its own included. It takes the logarithm of the imports.
+    /// The index of the module that a prefix names in a module, possibly itself. It takes the logarithm of the imports.
     pub fn imported(&self, module: u32, prefix: &str) -> Option<u32>
         ensures { result ≡ spec.imported self.now «module» prefix.now }
     {

@@ -1,14 +1,14 @@
-//! The statement that stands at a byte.
+//! The statement at a byte offset.
 ghost use Rattle.std.specs.Prelude.{◌≡◌, ℕ, ◌<◌, ◌≤◌, ◌^◌, true, length, IsTrue};
 ghost use Rattle.std.specs.Option.{option_copied};
 ghost use Rattle.sal_module.specs.Places as spec;
 
 use sal_stmt::Stmt;
 
-/// No statement stands here or behind it.
+/// Above every offset of a statement.
 pub(crate) const LAST_PLACE: u64 = 4_294_967_296;
 
-/// Whether each statement of this one stands before those in its block and before the next, and all before this place.
+/// Whether the offsets ascend in this statement and those below it, each before the next statement's, and all below `high`.
 pub(crate) fn is_in_order(levels: u32, high: u64, stmt: &Stmt) -> bool
     ensures { result ≡ spec.is_in_order levels high stmt.now }
 {
@@ -33,7 +33,7 @@ fn start_or(high: u64, stmts: &[Stmt]) -> u64
     }
 }
 
-/// The statement at this place, of any tree.
+/// The statement at this offset, of any tree.
 pub(crate) fn find_anywhere<'s>(levels: u32, at: u32, stmt: &'s Stmt) -> Option<&'s Stmt>
     ensures { option_copied result ≡ spec.find_at levels at stmt.now }
 {
@@ -51,7 +51,7 @@ pub(crate) fn find_anywhere<'s>(levels: u32, at: u32, stmt: &'s Stmt) -> Option<
     None
 }
 
-/// The half of these statements in which one at this place can stand.
+/// The half of these statements in which one at this offset must be.
 fn half<'s>(stmts: &'s [Stmt], at: u32) -> &'s [Stmt]
     requires { 1 < length stmts.now }
     ensures value { result.now ≡ spec.half_of at stmts.now }
@@ -65,7 +65,7 @@ fn half<'s>(stmts: &'s [Stmt], at: u32) -> &'s [Stmt]
     }
 }
 
-/// The statement at this place, among statements that stand in order and those below them.
+/// The statement at this offset, among statements with ascending offsets and those below them.
 fn find_among<'s>(levels: u32, at: u32, stmts: &'s [Stmt]) -> Option<&'s Stmt>
     requires { IsTrue (spec.all_before (spec.is_in_order levels) (2 ^ 32) stmts.now) }
     ensures { option_copied result ≡ spec.find_first (spec.find_at levels at) stmts.now }
@@ -90,7 +90,7 @@ fn find_among<'s>(levels: u32, at: u32, stmts: &'s [Stmt]) -> Option<&'s Stmt>
     None
 }
 
-/// The statement at this place, of a tree whose statements stand in order. It goes down to the one place where it can stand.
+/// The statement at this offset, of a tree with ascending offsets. It descends only into the statement that can contain it.
 pub(crate) fn find_in_order<'s>(levels: u32, at: u32, stmt: &'s Stmt) -> Option<&'s Stmt>
     requires { IsTrue (spec.is_in_order levels (2 ^ 32) stmt.now) }
     ensures { option_copied result ≡ spec.find_at levels at stmt.now }

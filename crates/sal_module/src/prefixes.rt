@@ -14,7 +14,7 @@ use sal_types::NoMemory;
 use std::alloc::Global;
 use std::collections::BTreeMap;
 
-/// The module of each prefix, where it was given.
+/// The module of each prefix, if it was given.
 pub(crate) type Prefixes = BTreeMap<String, Option<u32>>;
 
 fn with_own(alloc: Global, number: u32, stmt: &Stmt) -> Result<Prefixes, NoMemory>
@@ -26,7 +26,7 @@ fn with_own(alloc: Global, number: u32, stmt: &Stmt) -> Result<Prefixes, NoMemor
     Ok(map)
 }
 
-/// The prefixes of a module, and the least of this fault and those of imports whose prefix stands before.
+/// The prefixes of a module, and the first of this fault and those of imports whose prefix is used before.
 pub(crate) fn prefixes_of(
     best: Option<Found>,
     alloc: Global,

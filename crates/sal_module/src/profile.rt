@@ -1,4 +1,4 @@
-//! The rule of the profile: what may stand in each statement, how often, and with which argument.
+//! The rules of the profile: the substatements of each statement, how often they may occur, and their arguments.
 ghost use Rattle.std.specs.Prelude.{◌≡◌, ◌≤◌, ◌^◌, ◌<◌, ◌∷◌, [], map, filter, length};
 ghost use Rattle.std.specs.List.{flat_map, list_any};
 ghost use Rattle.sal_stmt.specs.declared.stmt.Stmt.{out-Stmt};
@@ -17,12 +17,12 @@ use crate::statement::{argument_of, is_named};
 use crate::table::{Entry, LEFT_OUT, Often, Rule, rule_of};
 use sal_stmt::Stmt;
 
-/// How the statements of one keyword stand.
+/// How often the statements of one keyword occur.
 #[derive(Clone, Copy, PartialEq, Eq)]
 pub enum Standing {
     Nowhere,
     Once,
-    /// The place of the second.
+    /// The offset of the second.
     Again(u32),
 }
 
@@ -46,7 +46,7 @@ fn standing_of(keyword: Keyword, subs: &[Stmt]) -> Standing
     }
 }
 
-/// The least of this fault and one with this cause, at this place of a module.
+/// The first of this fault and one of this kind, at this offset of a module.
 pub(crate) fn with_fault(best: Option<Found>, cause: Cause, number: u32, at: u32) -> Option<Found>
     ensures { result ≡ least best (spec.at_place cause number at) }
 {
@@ -84,7 +84,7 @@ fn with_often(
     }
 }
 
-/// Statements that may stand any number of times are not looked for.
+/// Substatements that may occur any number of times need no search.
 fn with_entry(best: Option<Found>, number: u32, stmt: &Stmt, entry: &Entry) -> Option<Found>
     ensures { result ≡ least best (spec.entry_faults number stmt.now entry.now) }
 {
@@ -133,7 +133,7 @@ fn has_part(parts: &[&[Entry]], keyword: Keyword) -> bool
     parts.iter().any(|part| has_entry(part, keyword))
 }
 
-/// Whether the rule has a place for the keyword.
+/// Whether the rule allows the keyword.
 fn allows(rule: &Rule, text: &str) -> bool
     ensures { result ≡ spec.allows (table.rule_view rule.now) text.now }
 {
@@ -155,7 +155,7 @@ fn is_left_out_word(text: &str) -> bool
     is_among(&LEFT_OUT, text)
 }
 
-/// What is wrong with a keyword that its parent has no place for.
+/// The kind of fault for a keyword that its parent does not allow.
 fn cause_outside(parent: &Stmt, text: &str) -> Cause
     ensures { result ≡ spec.cause_outside parent.now text.now }
 {
@@ -242,7 +242,7 @@ fn with_block(best: Option<Found>, number: u32, stmt: &Stmt, rule: &Rule) -> Opt
     with_type(best, number, stmt)
 }
 
-/// The least of this fault and those at a statement, which has this rule.
+/// The first of this fault and those at a statement, which has this rule.
 #[tactic(auto, unfolding(crate::specs::Profile::level_faults))]
 fn with_level(best: Option<Found>, number: u32, stmt: &Stmt, rule: &Rule) -> Option<Found>
     requires { table.rule_view rule.now ≡ table.rule_of (out-Stmt stmt.now).keyword }
@@ -256,7 +256,7 @@ fn with_level(best: Option<Found>, number: u32, stmt: &Stmt, rule: &Rule) -> Opt
     with_block(best, number, stmt, rule)
 }
 
-/// Whether the rule goes on inside a substatement of a statement, which has this rule.
+/// Whether substatements of `sub`, a substatement of a statement with this rule, are checked too.
 fn is_judged(parent: &Stmt, rule: &Rule, sub: &Stmt) -> bool
     requires { table.rule_view rule.now ≡ table.rule_of (out-Stmt parent.now).keyword }
     ensures { result ≡ spec.is_judged parent.now sub.now }
@@ -266,7 +266,7 @@ fn is_judged(parent: &Stmt, rule: &Rule, sub: &Stmt) -> bool
         && !is_named(Keyword::Extension, parent)
 }
 
-/// The least of this fault and those at a statement and in so many levels below it.
+/// The first of this fault and those at a statement and in `levels` levels below it.
 fn with_tree(best: Option<Found>, number: u32, levels: u32, stmt: &Stmt) -> Option<Found>
     ensures { result ≡ least best (spec.tree_faults number levels stmt.now) }
 {
@@ -283,7 +283,7 @@ fn with_tree(best: Option<Found>, number: u32, levels: u32, stmt: &Stmt) -> Opti
     best
 }
 
-/// The least of this fault and those of a module.
+/// The first of this fault and those of a module.
 #[tactic(auto, unfolding(crate::specs::Profile::module_faults))]
 fn with_module(best: Option<Found>, number: u32, stmt: &Stmt) -> Option<Found>
     ensures { result ≡ least best (spec.module_faults number stmt.now) }

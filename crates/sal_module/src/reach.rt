@@ -1,4 +1,4 @@
-//! Which items of a list reach another one, where each names some of them.
+//! Which items of a list reach a target, if each names some of the others.
 ghost use Rattle.std.specs.Prelude.{◌≡◌, false, map, IfOk, slice_index_or};
 ghost use Rattle.std.specs.List.{list_any};
 ghost use Rattle.sal_module.specs.Imports as spec;
@@ -19,7 +19,7 @@ fn goes(marks: &[bool], out: &[usize], target: usize) -> bool
     out.iter().any(|k| *k == target || is_marked(marks, *k))
 }
 
-/// Which items name the target or one that is marked.
+/// Which items name the target or a marked item.
 fn round(
     alloc: Global,
     edges: &[Vec<usize>],
@@ -35,7 +35,7 @@ fn round(
     Ok(next)
 }
 
-/// Which items reach the target within so many steps and one more. It ends once a round marks no more.
+/// Which items reach the target within the given number of steps plus one. It ends once a round marks no more.
 pub fn reaching(
     alloc: Global,
     edges: &[Vec<usize>],

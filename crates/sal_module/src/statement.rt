@@ -14,7 +14,7 @@ pub fn is_named(keyword: Keyword, stmt: &Stmt) -> bool
     stmt.keyword.as_str() == keyword.word()
 }
 
-/// The argument of a statement, or the empty text where it has none.
+/// The argument of a statement, or the empty text if it has none.
 pub fn argument_of(stmt: &Stmt) -> &str
     ensures { result.now ≡ spec.argument_of stmt.now }
 {

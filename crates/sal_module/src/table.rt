@@ -1,11 +1,11 @@
-//! The profile: which statements may stand in each statement, and the form of its argument.
+//! The profile: the substatements that each statement may have, and the form of its argument.
 ghost use Rattle.std.specs.Prelude.{◌≡◌, map, option_map};
 ghost use Rattle.sal_module.specs.Table as spec;
 
 use crate::argument::Form;
 use crate::keyword::{Keyword, keyword_of};
 
-/// How often a substatement may stand.
+/// How often a substatement may occur.
 #[derive(Clone, Copy, PartialEq, Eq)]
 pub enum Often {
     /// At most once.
@@ -16,13 +16,13 @@ pub enum Often {
     Any,
 }
 
-/// A keyword, and how often its statement may stand.
+/// A keyword, and how often its statement may occur.
 pub type Entry = (Keyword, Often);
 
-/// A statement of the profile: its keyword, the form of its argument, and what may stand in it, in groups.
+/// A statement of the profile: its keyword, the form of its argument, and its substatements, in groups.
 pub type Row = (Keyword, Form, &'static [&'static [Entry]]);
 
-/// The form of an argument, and what may stand in the statement.
+/// The form of an argument, and the substatements.
 pub type Rule = (Form, &'static [&'static [Entry]]);
 
 const DATA: &[Entry] = &[
@@ -52,7 +52,7 @@ const ERR: &[Entry] = &[
     (Keyword::Reference, Often::Optional),
 ];
 
-/// The words of YANG that the profile leaves out wherever they stand.
+/// The keywords of YANG that the profile does not support anywhere.
 pub const LEFT_OUT: [&str; 9] = [
     "submodule",
     "include",
@@ -65,7 +65,7 @@ pub const LEFT_OUT: [&str; 9] = [
     "refine",
 ];
 
-/// The rows. A keyword that has none takes any text and has no substatements.
+/// The rows. A keyword without a row takes any text and has no substatements.
 pub const TABLE: [Row; 37] = [
     (
         Keyword::Module,
@@ -383,7 +383,7 @@ fn rule_at(keyword: Keyword) -> Option<Rule>
     find_rule(&TABLE, keyword)
 }
 
-/// The rule of a word. A word without a row takes any text and has no substatements.
+/// The rule of a keyword, by its spelling. A keyword without a row takes any text and has no substatements.
 #[tactic(auto, unfolding(crate::specs::Table::rule_of))]
 pub(crate) fn rule_of(word: &str) -> Rule
     ensures { spec.rule_view result ≡ spec.rule_of word.now }

@@ -9,7 +9,7 @@ ghost use Rattle.sal_module.specs.Profile.{level_faults, module_faults};
 use crate::fault::Cause;
 use crate::keyword::Keyword;
 
-/// The definitions give what the examples say. A call does nothing: its clauses are the laws.
+/// The examples as clauses. A call does nothing.
 pub fn examples()
     ensures whole { is_whole (codes "01") ≡ false }
     ensures integer { is_integer (codes "-2147483648") ≡ true }

@@ -1,4 +1,4 @@
-//! Nodes by their names below other nodes.
+//! Children of nodes by name.
 ghost use Rattle.std.specs.Prelude.{◌≡◌, ◌<◌, ◌≤◌, Some, None, IfOk, length, slice_index_or, if◌then◌else◌};
 ghost use Rattle.std.specs.BTreeMap.{get};
 ghost use Rattle.sal_module_table.specs.declared.child.Key.{Key as Name};
@@ -16,12 +16,12 @@ use sal_types::{NoMemory, Str};
 use std::alloc::Global;
 use std::collections::BTreeMap;
 
-/// What a node is found by.
+/// The key of a node: its parent, its module and its name.
 #[derive(Debug, Drop, PartialEq, Eq, PartialOrd, Ord)]
 pub struct Key {
-    /// Whether a leaf is meant: not told apart where data are looked for.
+    /// Whether a leaf is looked for: false in look-ups of data nodes.
     pub leaf: bool,
-    /// The node below which it is looked for, or none at the top.
+    /// Its parent, or none at the top.
     pub above: Option<u32>,
     /// The module of its name.
     pub module: u32,
@@ -79,7 +79,7 @@ fn data_key(
     }))
 }
 
-/// The key has this number, whatever it had.
+/// Sets the number of the key, and replaces an earlier one.
 fn put(map: &mut Children, key: Option<Key>, k: u32) -> Result<(), NoMemory>
     ensures { IfOk result (λ _. (q : Name) → get spec.key_cmp map.new q ≡ (if spec.is_found_by q key then Some k else get spec.key_cmp map.old q)) }
 {
@@ -97,7 +97,7 @@ fn branch_at(forest: &[Branch], k: usize) -> &Branch
     &forest[k]
 }
 
-/// The nodes by their parents and names. From the last one to the first, so that the first with a key counts.
+/// The nodes by their parents and names. From the last one to the first, so that the first with a key is used.
 pub(crate) fn children_of(
     alloc: Global,
     modules: &Modules,
@@ -116,7 +116,7 @@ pub(crate) fn children_of(
     Ok(map)
 }
 
-/// The nodes for data by the nodes that their data stand under, and their names.
+/// The data nodes by their data parents and names.
 pub(crate) fn data_children_of(
     alloc: Global,
     modules: &Modules,
@@ -139,7 +139,7 @@ pub(crate) fn data_children_of(
 
 // ---- names in the statement of a node
 
-/// The module of a name in a statement: without a prefix the owner, and with one what the text of the source means.
+/// The module of a name in a statement: without a prefix `owner`, else the module that the prefix names in `source`.
 pub(crate) fn module_named(modules: &Modules, owner: u32, source: u32, text: &str) -> Option<u32>
     ensures { result ≡ paths.module_named modules.now owner source text.now }
 {

@@ -1,4 +1,4 @@
-//! Ways that lead back to where they begin.
+//! Cycles of edges.
 ghost use Rattle.std.specs.Prelude.{◌≡◌, Some, IfOk, IfSome, length};
 ghost use Rattle.std.proofs.Props.{props};
 ghost use Rattle.sal_grouping.specs.Indexes.{lists};
@@ -9,7 +9,7 @@ use sal_grouping::reaches;
 use sal_types::NoMemory;
 use std::alloc::Global;
 
-/// What each number names, and the ranks of all where no way leads into a circle.
+/// The edges of each number, and the ranks of all if no path leads into a cycle.
 #[derive(Drop)]
 pub(crate) struct Circles<'a> {
     pub alloc: Global,
@@ -18,7 +18,7 @@ pub(crate) struct Circles<'a> {
     pub ghost ranked: { IfSome ranks.now (λ ranks. IsRanked (lists edges.now) ranks.items) } by { Prim.hlevel props },
 }
 
-/// Whether a way leads from a target back to the number that has it.
+/// Whether a path leads from a target back to its number.
 pub(crate) fn is_cyclic(
     circles: &Circles,
     i: usize,

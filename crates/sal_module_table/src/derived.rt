@@ -1,4 +1,4 @@
-//! What identities are derived from.
+//! The identities from which identities are derived.
 ghost use Rattle.std.specs.Prelude.{◌≡◌, ◌∷◌, ◌<◌, ◌^◌, ℕ, [], All, fold, length, IfOk, slice_index_or, if◌then◌else◌, ◌==◌};
 ghost use Rattle.std.specs.List.{list_any};
 ghost use Rattle.sal_grouping.specs.Indexes.{lists};
@@ -15,7 +15,7 @@ fn is_among(numbers: &[u32], k: u32) -> bool
     numbers.iter().any(|j| *j == k)
 }
 
-/// The number goes behind these, where it does not stand among them.
+/// Appends the number, if the list does not have it.
 fn add(out: &mut Vec<u32>, k: u32) -> Result<(), NoMemory>
     ensures { IfOk result (λ _. out.new.items ≡ spec.with_number out.old.items k) }
 {
@@ -40,7 +40,7 @@ fn row_at(all: &[Vec<u32>], k: usize) -> &[u32]
     if k < all.len() { &all[k] } else { &[] }
 }
 
-/// A base, and what it is derived from.
+/// Adds a base, and the identities from which it is derived.
 fn add_with(out: &mut Vec<u32>, base: usize, above: &[u32]) -> Result<(), NoMemory>
     requires { base < 2 ^ 32 }
     ensures { IfOk result (λ _. out.new.items ≡ fold spec.with_number out.old.items (base ∷ above.now)) }
@@ -49,7 +49,7 @@ fn add_with(out: &mut Vec<u32>, base: usize, above: &[u32]) -> Result<(), NoMemo
     add_all(out, above)
 }
 
-/// Bases, each with what it is derived from.
+/// Bases, each with the identities from which it is derived.
 fn joined(alloc: Global, all: &[Vec<u32>], bases: &[usize]) -> Result<Vec<u32>, NoMemory>
     requires { All (λ b. b < 2 ^ 32) bases.now }
     ensures { IfOk result (λ row. row.items ≡ spec.joined (λ b. slice_index_or (rows all.now) b []) bases.now) }
@@ -61,7 +61,7 @@ fn joined(alloc: Global, all: &[Vec<u32>], bases: &[usize]) -> Result<Vec<u32>, 
     Ok(out)
 }
 
-/// The list of this number is made anew from those before it.
+/// Computes the list of this number from those before it.
 fn place_row(
     all: &mut Vec<Vec<u32>>,
     alloc: Global,
@@ -91,7 +91,7 @@ fn empty_rows(alloc: Global, count: usize) -> Result<Vec<Vec<u32>>, NoMemory>
     Ok(all)
 }
 
-/// What each identity is derived from, by an order in which its bases stand before it.
+/// The identities from which each identity is derived, by an order in which its bases come before it.
 fn derived_by(alloc: Global, edges: &[Vec<usize>], order: &Order) -> Result<Vec<Vec<u32>>, NoMemory>
     requires order { IsOrdered (lists edges.now) order.now.ranks.items order.now.order.items }
     requires small { spec.AreSmall (lists edges.now) }
@@ -106,7 +106,7 @@ fn derived_by(alloc: Global, edges: &[Vec<usize>], order: &Order) -> Result<Vec<
     Ok(all)
 }
 
-/// What one is derived from in so many steps.
+/// The identities from which one is derived in at most this many steps.
 fn derived_in(
     alloc: Global,
     edges: &[Vec<usize>],
@@ -127,7 +127,7 @@ fn derived_in(
     Ok(out)
 }
 
-/// What each is derived from, however the edges lead.
+/// The same for each identity, for edges that may have cycles.
 fn derived_slowly(alloc: Global, edges: &[Vec<usize>]) -> Result<Vec<Vec<u32>>, NoMemory>
     requires { spec.AreSmall (lists edges.now) }
     ensures count { IfOk result (λ all. length (rows all.items) ≡ length (lists edges.now)) }
@@ -140,10 +140,10 @@ fn derived_slowly(alloc: Global, edges: &[Vec<usize>]) -> Result<Vec<Vec<u32>>, 
     Ok(all)
 }
 
-/// What each identity is derived from: its bases, and what they are derived from.
+/// The identities from which each identity is derived: its bases, and those from which they are derived.
 ///
-/// Each is gone through once, after its bases. Where a way leads into a cycle, which is a fault that stands before this, each
-/// way is gone along by itself.
+/// Each is computed once, after its bases. If a path leads into a cycle, which is a fault found before, each
+/// path is followed by itself.
 pub(crate) fn derived_of(alloc: Global, edges: &[Vec<usize>]) -> Result<Vec<Vec<u32>>, NoMemory>
     requires { spec.AreSmall (lists edges.now) }
     ensures count { IfOk result (λ all. length (rows all.items) ≡ length (lists edges.now)) }

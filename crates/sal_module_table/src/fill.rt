@@ -51,7 +51,7 @@ fn push_copies(out: &mut Vec<YangType>, alloc: Global, types: &[YangType]) -> Re
     Ok(())
 }
 
-/// The members of a union, or the type as its only member, go behind these.
+/// Appends the members of a union, or the type as its only member.
 fn push_members(out: &mut Vec<YangType>, alloc: Global, t: YangType) -> Result<(), NoMemory>
     ensures { IfOk result (λ _. out.new.items ≡ out.old.items ++ members_of t (out-YangType t)) }
 {
@@ -73,7 +73,7 @@ fn is_reference(t: &YangType) -> bool
     }
 }
 
-/// A member of a union goes behind these, with the next target's type where it is a leafref.
+/// Appends a member of a union, or the next target's type if it is a leafref.
 fn push_filled(
     out: &mut Vec<YangType>,
     alloc: Global,
@@ -152,7 +152,7 @@ fn filled_at(
     }
 }
 
-/// The type of this number is made anew from those of its targets.
+/// Computes the type of this number from those of its targets.
 fn place_type(
     all: &mut Vec<YangType>,
     alloc: Global,
@@ -200,7 +200,7 @@ fn types_by(
     Ok(all)
 }
 
-/// The type of one in so many steps.
+/// The type of one node, in at most this many steps.
 fn type_in(
     alloc: Global,
     own: &[YangType],
@@ -222,7 +222,7 @@ fn type_in(
     Ok(t)
 }
 
-/// The types of all, however the edges lead.
+/// The types of all nodes, for edges that may have cycles.
 fn types_slowly(
     alloc: Global,
     own: &[YangType],
@@ -238,10 +238,10 @@ fn types_slowly(
     Ok(all)
 }
 
-/// The type of each number, where each has a type of its own and the targets of the leafrefs in that, in their order.
+/// The type of each node, from its stated type and the targets of the leafrefs in that type, in their order.
 ///
-/// Each is made once, after those of its targets. Where a way leads into a cycle, which is a fault that stands before this, each
-/// way is gone along by itself.
+/// Each is made once, after those of its targets. If a path leads into a cycle, which is a fault found before, each
+/// path is followed by itself.
 fn filled_types(
     alloc: Global,
     own: &[YangType],
@@ -256,7 +256,7 @@ fn filled_types(
     }
 }
 
-/// The same of types that nobody needs any more.
+/// The same for types that the function owns.
 pub(crate) fn filled_of(
     alloc: Global,
     own: Vec<YangType>,

@@ -1,4 +1,4 @@
-//! Identities: their list, their faults, and what they are derived from.
+//! Identities: their list, their faults, and from which identities they are derived.
 ghost use Rattle.std.specs.Prelude.{◌≡◌, ◌++◌, ◌<◌, ℕ, [], None, length, map, IfOk, slice_index_or};
 ghost use Rattle.sal_module.specs.Faults.{least};
 ghost use Rattle.sal_grouping.specs.Indexes.{lists};
@@ -223,7 +223,7 @@ fn info_of(
     })
 }
 
-/// The identities of the table, each with all that it is derived from.
+/// The identities of the table, each with all identities from which it is derived.
 pub(crate) fn infos_of(
     alloc: Global,
     all: &[Identity],
@@ -241,11 +241,11 @@ pub(crate) fn infos_of(
     Ok(infos)
 }
 
-/// The first fault of identities, or none: a `base` that names no identity, or by which an identity is derived from itself
+/// The first fault of identities, or none: a `base` that names no identity, or through which an identity is derived from itself
 /// (RFC 7950 section 7.18.2).
 ///
-/// Without a cycle it takes time linear in the statements, times the logarithm of the identities. Where a way leads into a
-/// cycle, it takes, for each `base` from which it does, the time of all of them for each step of the longest way.
+/// Without a cycle it takes time linear in the statements, times the logarithm of the identities. With a
+/// cycle, it takes, for each `base` from which a path leads into it, the time of all of them for each step of the longest path.
 pub(crate) fn identity_fault(
     alloc: Global,
     modules: &Modules,
@@ -259,10 +259,10 @@ pub(crate) fn identity_fault(
     identities_fault(alloc, typedefs, &all, &edges)
 }
 
-/// The identities of the table, in the order of modules and texts, each with all that it is derived from.
+/// The identities of the table, in the order of modules and texts, each with all identities from which it is derived.
 ///
-/// Each is gone through once, after its bases, in the square of the number of identities that it is derived from. Where a way
-/// leads into a cycle, which `identity_fault` finds, each way is gone along by itself.
+/// Each is computed once, after its bases, in the square of the number of identities from which it is derived. If a path
+/// leads into a cycle, which `identity_fault` finds, each path is followed by itself.
 pub(crate) fn identity_infos(
     alloc: Global,
     modules: &Modules,

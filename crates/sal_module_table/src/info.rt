@@ -16,7 +16,7 @@ use sal_schema::{Kind, Leafs, NodeInfo};
 use sal_stmt::Stmt;
 use sal_types::{NoMemory, Seq, Str, append};
 
-/// The keys that a statement gives go behind these.
+/// Appends the keys that a statement names.
 fn push_keys(
     keys: &mut Vec<u32>,
     nodes: &Nodes,
@@ -49,7 +49,7 @@ fn keys_of(nodes: &Nodes, k: u32, branch: &Branch, kind: Kind) -> Result<Vec<u32
     Ok(keys)
 }
 
-/// The unique leafs that a statement gives go behind these.
+/// Appends the unique leafs that a statement names.
 fn push_unique(
     uniques: &mut Vec<Leafs>,
     nodes: &Nodes,

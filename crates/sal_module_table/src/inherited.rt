@@ -1,4 +1,4 @@
-//! What a node has from the one above it.
+//! Properties that a node has from its parent.
 ghost use Rattle.std.specs.Prelude.{◌≡◌, ◌≤◌, Some, None, true, IfOk, length, slice_index_or};
 ghost use Rattle.std.specs.Option.{option_copied};
 ghost use Rattle.sal_module_table.specs.Inherited as spec;
@@ -45,7 +45,7 @@ fn config_in(kind: Kind, own: Option<&Stmt>, over: Option<bool>) -> Option<bool>
     }
 }
 
-/// Whether a node is configuration, by the one above it.
+/// Whether a node is configuration, by its parent.
 fn config_of(modules: &Modules, branch: &Branch, over: Option<bool>) -> Option<bool>
     ensures { result ≡ spec.config_in (nodes.kind_of modules.now branch.now) (nodes.own_stmt modules.now branch.now) over }
 {
@@ -73,7 +73,7 @@ pub(crate) fn configs_of(
     Ok(all)
 }
 
-/// Whether the node at a place is configuration: at the top it would be.
+/// Whether a child of this parent would be configuration by default; at the top it is.
 pub(crate) fn config_at(
     modules: &Modules,
     forest: &[Branch],
@@ -95,7 +95,7 @@ pub(crate) fn config_at(
     }
 }
 
-// ---- the node that data stand under
+// ---- data parents
 
 pub(crate) fn data_over(done: &[Option<u32>], k: usize, parent: Option<u32>) -> Option<u32>
     requires { k ≤ length done.now }
@@ -123,7 +123,7 @@ fn data_in(kind: Kind, k: u32, over: Option<u32>) -> Option<u32>
     }
 }
 
-/// The node that data stand under where they stand under each node.
+/// For each node, the data parent of its children.
 pub(crate) fn data_nodes_of(
     alloc: Global,
     modules: &Modules,
@@ -140,7 +140,7 @@ pub(crate) fn data_nodes_of(
     Ok(all)
 }
 
-/// The node that data stand under where they stand at a place.
+/// The data parent of the children of this node.
 pub(crate) fn data_parent(
     modules: &Modules,
     forest: &[Branch],

@@ -1,4 +1,4 @@
-//! Leafrefs: where those of each node lead, and their faults (RFC 7950 section 9.9).
+//! The targets of the leafrefs of each node, and their faults (RFC 7950 section 9.9).
 ghost use Rattle.std.specs.Prelude.{◌≡◌, ◌≤◌, ◌++◌, [], None, false, IfOk, map, length, slice_index_or};
 ghost use Rattle.std.specs.List.{flat_map, list_any};
 ghost use Rattle.std.specs.Option.{option_to_list};
@@ -38,7 +38,7 @@ fn target_of(
     end_of(paths, k, branch, leafref.module, count_up(path), &names)
 }
 
-/// Where the leafrefs of a node lead, without those that lead nowhere.
+/// The targets of the leafrefs of a node, without those that have none.
 fn targets_of(
     paths: &Paths,
     k: u32,
@@ -65,7 +65,7 @@ fn push_target(targets: &mut Vec<usize>, target: Option<u32>) -> Result<(), NoMe
     Ok(())
 }
 
-/// Where the leafrefs of each node lead.
+/// The targets of the leafrefs of each node.
 fn edges_of(paths: &Paths, leafrefs: &[Vec<Leafref>]) -> Result<Vec<Vec<usize>>, NoMemory>
     requires { spec.seen_all leafrefs.now ≡ map (spec.references_at paths.now.modules.now) paths.now.forest.now }
     ensures { IfOk result (λ edges. lists edges.items ≡ spec.edges_of paths.now.modules.now paths.now.forest.now) }
@@ -157,7 +157,7 @@ fn ranked_fault(
     Ok(best)
 }
 
-/// The first fault of leafrefs: a path that leads to no leaf or leaf-list, or a leafref by which a node takes its own type.
+/// The first fault of leafrefs: a path that leads to no leaf or leaf-list, or a leafref through which a node's type depends on itself.
 fn leafrefs_fault(
     paths: &Paths,
     leafrefs: &[Vec<Leafref>],
@@ -178,10 +178,10 @@ fn leafrefs_fault(
 
 // ---- both
 
-/// Where the leafrefs of each node lead, and the first fault of leafrefs.
+/// The targets of the leafrefs of each node, and the first fault of leafrefs.
 #[derive(Drop)]
 pub(crate) struct Targets {
-    /// The targets of each node's leafrefs, but for those that lead nowhere.
+    /// The targets of each node's leafrefs, without those that have none.
     pub edges: Vec<Vec<usize>>,
     /// The first fault.
     pub fault: Option<Found>,
@@ -219,7 +219,7 @@ fn no_edges(alloc: Global, forest: &[Branch]) -> Result<Vec<Vec<usize>>, NoMemor
     Ok(edges)
 }
 
-/// The same where no node has a leafref.
+/// The same if no node has a leafref.
 fn no_targets(
     alloc: Global,
     modules: &Modules,
@@ -246,7 +246,7 @@ fn follow(paths: &Paths, leafrefs: &[Vec<Leafref>]) -> Result<Targets, NoMemory>
     Ok(Targets { edges, fault })
 }
 
-/// Where these leafrefs lead. What paths are followed by is made only where there is one.
+/// The targets of these leafrefs. The indexes for paths are made only if there is one.
 pub(crate) fn find_targets(
     alloc: Global,
     modules: &Modules,

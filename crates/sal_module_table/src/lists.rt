@@ -29,7 +29,7 @@ pub(crate) fn is_list(kind: Kind) -> bool
 
 // ---- names
 
-/// The leafs of a list that these names mean, as keys.
+/// The leafs of a list that these names refer to, as keys.
 fn key_leafs(
     nodes: &Nodes,
     k: u32,
@@ -46,7 +46,7 @@ fn key_leafs(
     Ok(named)
 }
 
-/// The leafs of a list that the names in a text mean, as keys.
+/// The leafs of a list that the names in a text refer to, as keys.
 pub(crate) fn keys_named(
     nodes: &Nodes,
     k: u32,
@@ -59,7 +59,7 @@ pub(crate) fn keys_named(
     key_leafs(nodes, k, branch, &names)
 }
 
-/// The node of this number, where it is no list.
+/// The node of this number, if it is not a list.
 fn unless_list(modules: &Modules, forest: &[Branch], node: Option<u32>) -> Option<u32>
     ensures { result ≡ spec.unless_list modules.now forest.now node }
 {
@@ -78,7 +78,7 @@ fn unless_list(modules: &Modules, forest: &[Branch], node: Option<u32>) -> Optio
     }
 }
 
-/// The leaf below a node to which the steps lead through nodes that are no lists.
+/// The leaf below a node at the end of these steps, through nodes that are not lists.
 fn leaf_below(
     nodes: &Nodes,
     branch: &Branch,
@@ -116,7 +116,7 @@ fn unique_leaf(nodes: &Nodes, k: u32, branch: &Branch, name: &str) -> Result<Opt
     leaf_below(nodes, branch, k, &steps)
 }
 
-/// The leafs below a list that these names mean, as unique ones.
+/// The leafs below a list that these names refer to, for a `unique`.
 fn unique_leafs(
     nodes: &Nodes,
     k: u32,
@@ -133,7 +133,7 @@ fn unique_leafs(
     Ok(named)
 }
 
-/// The leafs below a list that the names in a text mean, as unique ones.
+/// The leafs below a list that the names in a text refer to, for a `unique`.
 pub(crate) fn uniques_named(
     nodes: &Nodes,
     k: u32,
@@ -146,7 +146,7 @@ pub(crate) fn uniques_named(
     unique_leafs(nodes, k, branch, &names)
 }
 
-/// Those that are there.
+/// The numbers that exist.
 pub(crate) fn given(alloc: Global, named: &[Option<u32>]) -> Result<Vec<u32>, NoMemory>
     ensures { IfOk result (λ list. list.items ≡ spec.given named.now) }
 {
@@ -159,7 +159,7 @@ pub(crate) fn given(alloc: Global, named: &[Option<u32>]) -> Result<Vec<u32>, No
     Ok(list)
 }
 
-// ---- what is bad
+// ---- bad names
 
 fn has_none(named: &[Option<u32>]) -> bool
     ensures { result ≡ spec.has_none named.now }
@@ -179,7 +179,7 @@ fn has_number(number: u32, numbers: &[u32]) -> bool
     numbers.iter().any(|other| number == *other)
 }
 
-/// Whether no number stands twice.
+/// Whether all numbers differ.
 fn all_differ(numbers: &[u32]) -> bool
     ensures { result ≡ spec.all_differ nat_eq numbers.now }
 {
@@ -197,7 +197,7 @@ fn same_config(a: Option<bool>, b: Option<bool>) -> bool
     a == b
 }
 
-/// Whether the node at a place is configuration: at the top it would be.
+/// Whether a child of this parent would be configuration by default; at the top it is.
 pub(crate) fn config_above(nodes: &Nodes, place: Option<u32>) -> Option<bool>
     ensures { result ≡ inherited.config_above nodes.now.modules.now nodes.now.forest.now place }
 {
@@ -242,7 +242,7 @@ fn is_bad_unique(nodes: &Nodes, k: u32, branch: &Branch, text: &str) -> Result<b
 
 // ---- faults
 
-/// The least of this fault and one with this cause at a statement.
+/// The first of this fault and one of this kind at a statement.
 fn with_fault(best: Option<Found>, cause: Cause, module: u32, stmt: &Stmt) -> Option<Found>
     ensures { result ≡ least best (spec.at_stmt cause «module» stmt.now) }
 {
@@ -272,7 +272,7 @@ pub(crate) fn with_bad(
     }
 }
 
-/// The least of this fault and that of a statement in the block of a list.
+/// The first of this fault and that of a statement in the block of a list.
 fn with_sub(
     best: Option<Found>,
     nodes: &Nodes,
@@ -337,7 +337,7 @@ fn with_configs(best: Option<Found>, nodes: &Nodes, branch: &Branch, subs: &[Stm
     best
 }
 
-/// What stands in the block of a node.
+/// The statements in the block of a node.
 pub(crate) fn block_of<'m>(modules: &'m Modules, branch: &Branch) -> &'m [Stmt]
     ensures { result.now ≡ spec.block_of (spec.own_stmt modules.now branch.now) }
 {

@@ -1,4 +1,4 @@
-//! What the statement of a node says of it.
+//! The properties that a node has from its statement.
 ghost use Rattle.std.specs.Prelude.{◌≡◌, None, codes, is_some, if◌then◌else◌};
 ghost use Rattle.std.specs.Option.{option_copied};
 ghost use Rattle.sal_stmt.specs.declared.stmt.Stmt.TheViews.{out-Stmt};
@@ -11,7 +11,7 @@ use sal_module::{Keyword, Modules, argument_of, first_named, has_named, keyword_
 use sal_schema::Kind;
 use sal_stmt::Stmt;
 
-/// The statement at the place of a node.
+/// The statement at the offset of a node.
 pub(crate) fn stmt_of<'m>(modules: &'m Modules, branch: &Branch) -> Option<&'m Stmt>
     ensures { option_copied result ≡ spec.stmt_of modules.now branch.now }
 {
@@ -29,7 +29,7 @@ pub(crate) fn own_stmt<'m>(modules: &'m Modules, branch: &Branch) -> Option<&'m 
     }
 }
 
-/// The same by the statement at its place.
+/// The same, from the statement at its offset.
 pub(crate) fn own_in<'m>(stmt: Option<&'m Stmt>, implied: Option<Implied>) -> Option<&'m Stmt>
     ensures { option_copied result ≡ (if is_some implied then None else option_copied stmt.entry) }
 {
@@ -51,7 +51,7 @@ fn is_leaf_stmt(stmt: &Stmt) -> bool
     stmt.keyword.as_str() == "leaf"
 }
 
-/// The keyword of a statement. Most nodes are leafs: their word is looked at first.
+/// The keyword of a statement. Most nodes are leafs: that keyword is tried first.
 fn node_keyword(stmt: &Stmt) -> Option<Keyword>
     ensures { result ≡ keywords.keyword_of (out-Stmt stmt.now).keyword }
 {
@@ -90,7 +90,7 @@ fn kind_among(presence: bool, keyword: Option<Keyword>) -> Kind
     }
 }
 
-/// The kind of a node with this statement at its place.
+/// The kind of a node with this statement at its offset.
 pub(crate) fn kind_in(stmt: Option<&Stmt>, implied: Option<Implied>) -> Kind
     ensures { result ≡ spec.kind_in (option_copied stmt.entry) implied }
 {
@@ -102,7 +102,7 @@ pub(crate) fn kind_in(stmt: Option<&Stmt>, implied: Option<Implied>) -> Kind
     }
 }
 
-/// The kind of a node: that of its statement, or what is implied.
+/// The kind of a node: that of its statement, or the implied one.
 pub fn kind_of(modules: &Modules, branch: &Branch) -> Kind
     ensures { result ≡ spec.kind_of modules.now branch.now }
 {
@@ -118,7 +118,7 @@ fn argument_in(stmt: Option<&Stmt>) -> &str
     }
 }
 
-/// The name of a node of this kind, with this statement at its place.
+/// The name of a node of this kind, with this statement at its offset.
 pub(crate) fn name_in<'m>(kind: Kind, stmt: Option<&'m Stmt>) -> &'m str
     ensures { result.now ≡ spec.name_in kind (spec.argument_in (option_copied stmt.entry)) }
 {
@@ -148,7 +148,7 @@ pub(crate) fn is_operation(kind: Kind) -> bool
     }
 }
 
-// ---- what stands in its block
+// ---- substatements
 
 /// The argument of the statement of this keyword.
 fn stated<'m>(keyword: Keyword, stmt: Option<&'m Stmt>) -> Option<&'m str>
@@ -190,7 +190,7 @@ pub(crate) fn is_mandatory(stmt: Option<&Stmt>) -> bool
     }
 }
 
-/// The number that digits write, or the greatest of 32 bits where it is greater.
+/// The value of digits, or the greatest number of 32 bits if it is greater.
 fn count_of(text: &[u8]) -> u32
     ensures { result ≡ spec.count_of text.now }
 {
@@ -203,7 +203,7 @@ fn count_of(text: &[u8]) -> u32
     number
 }
 
-/// The fewest entries that a statement asks for.
+/// The smallest number of entries that a statement requires.
 pub(crate) fn min_elements(stmt: Option<&Stmt>) -> u32
     ensures { result ≡ spec.min_elements (option_copied stmt.entry) }
 {
@@ -213,7 +213,7 @@ pub(crate) fn min_elements(stmt: Option<&Stmt>) -> u32
     }
 }
 
-/// The most entries that a statement takes; none where they are unbounded.
+/// The largest number of entries that a statement allows; none if they are unbounded.
 pub(crate) fn max_elements(stmt: Option<&Stmt>) -> Option<u32>
     ensures { result ≡ spec.max_elements (option_copied stmt.entry) }
 {

@@ -1,4 +1,4 @@
-//! All nodes, with what is looked up of them.
+//! All nodes, with their indexes.
 ghost use Rattle.sal_module_table.specs.Lists.{AreTables};
 
 use crate::tables::Tables;
@@ -6,7 +6,7 @@ use sal_grouping::Branch;
 use sal_module::Modules;
 use std::alloc::Global;
 
-/// The nodes of modules, and what is looked up of them by number and by name.
+/// The nodes of modules, with indexes by number and by name.
 #[derive(Drop)]
 pub(crate) struct Nodes<'a> {
     pub alloc: Global,

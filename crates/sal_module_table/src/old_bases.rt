@@ -12,7 +12,7 @@ use sal_typedefs::Typedefs;
 use sal_types::NoMemory;
 use std::alloc::Global;
 
-/// The identities of all modules. Those of the modules before number `old` are old.
+/// The identities of all modules. Those of the modules before index `old` are old.
 #[derive(Drop)]
 struct Ages<'x, 't, 'm> {
     typedefs: &'x Typedefs<'t>,
@@ -67,7 +67,7 @@ fn fault_among<'x, 't, 'm>(
     best
 }
 
-/// The first `base` of an identity of a new module that names an identity of an old module, or none. The modules before number `old` are old.
+/// The first `base` of an identity of a new module that names an identity of an old module, or none. The modules before index `old` are old.
 ///
 /// It takes time linear in the identities and their bases, times the logarithm of the identities.
 pub(crate) fn old_base_fault(

@@ -1,4 +1,4 @@
-//! Numbers in an order in which what each one names stands before it.
+//! Numbers in an order in which the targets of each one's edges come before it.
 ghost use Rattle.std.specs.Prelude.{◌≡◌, ◌<◌, ℕ, [], length, IsTrue, IfOk, IfSome, slice_index_or};
 ghost use Rattle.std.specs.List.{list_all};
 ghost use Rattle.sal_grouping.specs.Indexes.{lists};
@@ -15,7 +15,7 @@ pub(crate) struct Order {
     pub order: Vec<usize>,
 }
 
-/// What a number names.
+/// The targets of a number's edges.
 pub(crate) fn out_of(edges: &[Vec<usize>], i: usize) -> &[usize]
     ensures { result.now ≡ slice_index_or (lists edges.now) i [] }
 {
@@ -85,7 +85,7 @@ fn by_rank(alloc: Global, ranks: &[usize], count: usize) -> Result<Vec<usize>, N
     Ok(order)
 }
 
-/// An order in which what each number names stands before it, or none where a way leads into a cycle.
+/// An order in which the targets of each number come before it, or none if a path leads into a cycle.
 pub(crate) fn order_of(alloc: Global, edges: &[Vec<usize>]) -> Result<Option<Order>, NoMemory>
     ensures { IfOk result (λ found. IfSome found (λ it. spec.IsOrdered (lists edges.now) it.ranks.items it.order.items)) }
 {

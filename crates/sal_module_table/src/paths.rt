@@ -1,4 +1,4 @@
-//! All nodes, with what the paths of leafrefs are followed by.
+//! All nodes, with the indexes for the paths of leafrefs.
 ghost use Rattle.sal_module_table.specs.Leafrefs.{AreWays};
 
 use crate::walk::Ways;
@@ -6,7 +6,7 @@ use sal_grouping::Branch;
 use sal_module::Modules;
 use std::alloc::Global;
 
-/// The nodes of modules, and what paths are followed by among them.
+/// The nodes of modules, with the indexes for paths.
 #[derive(Drop)]
 pub(crate) struct Paths<'a> {
     pub alloc: Global,

@@ -36,7 +36,7 @@ use sal_typedefs::Typedefs;
 use sal_types::{NoMemory, Seq, Str, append};
 use std::alloc::Global;
 
-/// The one of two faults that counts: of equals the first.
+/// The first of two faults: of equals the one given first.
 fn merged(best: Option<Found>, more: Option<Found>) -> Option<Found>
     ensures { (faults : List Hit) → more ≡ least None faults → result ≡ least best faults }
 {
@@ -95,7 +95,7 @@ fn names_of(alloc: Global, stmts: &[Stmt]) -> Result<Vec<Str>, NoMemory>
     Ok(names)
 }
 
-/// The types of the nodes that have one, with what leafrefs lead to.
+/// The types of the nodes that have one, with the targets of leafrefs resolved.
 fn types_in(
     nodes: &Nodes,
     typed: &NodeTypes,
@@ -205,7 +205,7 @@ fn table_of(
 
 // ---- faults
 
-/// What a table is made from: modules, their typedefs and the forest of their nodes. The modules before number `old` are those of an earlier version.
+/// The input for a table: modules, their typedefs and the forest of their nodes. The modules before index `old` are those of an earlier version.
 #[derive(Drop)]
 struct Sources<'x, 'a> {
     alloc: Global,
@@ -227,7 +227,7 @@ fn name_fault(sources: &Sources, of_leafrefs: Option<Found>) -> Result<Option<Fo
     Ok(merged(merged(best, more), of_leafrefs))
 }
 
-/// The fault as callers get it.
+/// The fault as `BuildFault`.
 fn fault_in(alloc: Global, found: Found) -> BuildFault
     ensures { (result ≡ Fault.NoMemory → ⊥) → result ≡ fault_of found }
 {
@@ -237,9 +237,9 @@ fn fault_in(alloc: Global, found: Found) -> BuildFault
     }
 }
 
-// What follows is made a part at a time, each function with one value of its own: several over early exits make a proof long.
+// The table is made a part at a time, and each function makes one value: several over early exits make a proof long.
 
-/// The table of a forest whose names and types are good, or the first fault of lists.
+/// The table of a forest whose names and types have no fault, or the first fault of lists.
 fn judge_lists(
     nodes: &Nodes,
     typedefs: &Typedefs,
@@ -271,7 +271,7 @@ fn other_fault(sources: &Sources) -> Result<Option<Found>, NoMemory>
     Ok(merged(best, more))
 }
 
-/// The table of a forest whose names are good, or the first other fault of types, then of lists.
+/// The table of a forest whose names have no fault, or the first other fault of types, then of lists.
 fn judge_types(
     sources: &Sources,
     typed: &NodeTypes,
@@ -295,7 +295,7 @@ fn judge_types(
     judge_lists(&nodes, sources.typedefs, typed, edges)
 }
 
-/// The table of a forest, or its first fault, by where its leafrefs lead.
+/// The table of a forest, or its first fault, from the targets of its leafrefs.
 fn judge_names(
     sources: &Sources,
     typed: &NodeTypes,
@@ -312,7 +312,7 @@ fn judge_names(
     judge_types(sources, typed, &targets.edges)
 }
 
-/// Where the leafrefs of each node lead, and their first fault.
+/// The targets of the leafrefs of each node, and their first fault.
 fn targets_in(sources: &Sources, typed: &NodeTypes) -> Result<Targets, NoMemory>
     requires { AreTyped sources.now.modules.now sources.now.forest.now typed.now }
     ensures edges { IfOk result (λ targets. lists targets.edges.items ≡ leads.edges_of sources.now.modules.now sources.now.forest.now) }
@@ -322,7 +322,7 @@ fn targets_in(sources: &Sources, typed: &NodeTypes) -> Result<Targets, NoMemory>
     find_targets(sources.alloc, sources.modules, sources.forest, &leafrefs)
 }
 
-/// The table of a forest, or its first fault, by what the type statements of its nodes mean.
+/// The table of a forest, or its first fault, from the types in its nodes' type statements.
 fn judge_by_types(sources: &Sources, typed: &NodeTypes) -> Result<SchemaTable, BuildFault>
     requires { AreTyped sources.now.modules.now sources.now.forest.now typed.now }
     ensures { GivesUnless Fault.NoMemory (λ table. table) result (spec.judged_on sources.now.old sources.now.modules.now sources.now.forest.now) }
@@ -331,7 +331,7 @@ fn judge_by_types(sources: &Sources, typed: &NodeTypes) -> Result<SchemaTable, B
     judge_names(sources, typed, &targets)
 }
 
-/// The table of a forest, or its first fault, by its typedefs.
+/// The table of a forest, or its first fault, from its typedefs.
 fn judge_by_typedefs(sources: &Sources) -> Result<SchemaTable, BuildFault>
     ensures { GivesUnless Fault.NoMemory (λ table. table) result (spec.judged_on sources.now.old sources.now.modules.now sources.now.forest.now) }
 {
@@ -344,7 +344,7 @@ fn judge_by_typedefs(sources: &Sources) -> Result<SchemaTable, BuildFault>
     judge_by_types(sources, &typed)
 }
 
-/// The table of a forest, or the first fault of types, then of lists. The modules before number `old` are those of an earlier version.
+/// The table of a forest, or the first fault of types, then of lists. The modules before index `old` are those of an earlier version.
 pub(crate) fn judge_on(
     alloc: Global,
     modules: &Modules,
@@ -381,10 +381,10 @@ pub(crate) fn judge(
 
 /// The table of the schema of these modules, or their first fault.
 ///
-/// A part is judged only where those before it found nothing: the profile and the imports, groupings and augments with the names
-/// of nodes (RFC 7950 sections 7.12, 7.13 and 7.17), the names of types, identities and leafrefs, the other faults of types,
-/// and the keys, unique leafs and `config` of nodes. Within a part it is the fault with the smallest module, then the smallest
-/// place, then the smallest number. The number of an identity is one of 32 bits, so there are to be fewer than 2^32 statements.
+/// The checks run in this order, each only if those before it found nothing: the profile and the imports, groupings and augments
+/// with the names of nodes (RFC 7950 sections 7.12, 7.13 and 7.17), the names of types, identities and leafrefs, the other faults
+/// of types, and the keys, unique leafs and `config` of nodes. Within one check the fault with the smallest module, then the smallest
+/// offset, then the smallest number is returned. Identity numbers have 32 bits, so there must be fewer than 2^32 statements.
 pub fn table_of_modules(alloc: Global, stmts: &[Stmt]) -> Result<SchemaTable, BuildFault>
     requires { steps_of stmts.now < 2 ^ 32 }
     ensures { GivesUnless Fault.NoMemory (λ table. table) result (spec.build stmts.now) }
@@ -394,7 +394,7 @@ pub fn table_of_modules(alloc: Global, stmts: &[Stmt]) -> Result<SchemaTable, Bu
     judge(alloc, &modules, &forest)
 }
 
-/// The same of statements that nobody needs any more: none is copied.
+/// The same for statements that the function owns: none is copied.
 pub fn table_of_owned(alloc: Global, stmts: Vec<Stmt>) -> Result<SchemaTable, BuildFault>
     requires { steps_of stmts.items < 2 ^ 32 }
     ensures { GivesUnless Fault.NoMemory (λ table. table) result (spec.build stmts.items) }

@@ -1,4 +1,4 @@
-//! What is kept beside a forest.
+//! Indexes of a forest.
 ghost use Rattle.std.specs.Prelude.{◌≤◌, IfOk, length};
 ghost use Rattle.sal_module_table.specs.Lists.{AreTables};
 
@@ -9,18 +9,18 @@ use sal_module::Modules;
 use sal_types::NoMemory;
 use std::alloc::Global;
 
-/// What is looked up of nodes by number and by name.
+/// Properties of nodes by number and by name.
 #[derive(Drop)]
 pub(crate) struct Tables {
     /// Whether each node is configuration; none in operations.
     pub configs: Vec<Option<bool>>,
-    /// The node that data stand under where they stand under each node.
+    /// For each node, the data parent of its children.
     pub data_nodes: Vec<Option<u32>>,
     /// The nodes by their parents and names.
     pub children: Children,
 }
 
-/// The tables of a forest.
+/// The indexes of a forest.
 pub(crate) fn tables_of(
     alloc: Global,
     modules: &Modules,

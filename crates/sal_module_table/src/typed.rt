@@ -1,4 +1,4 @@
-//! The type statements of nodes, and what they mean.
+//! The type statements of nodes, and their types.
 ghost use Rattle.std.specs.Prelude.{◌≡◌, ◌<◌, slice_index_or, ◌++◌, Some, IfOk, map, find, option_map, length, if◌then◌else◌};
 ghost use Rattle.std.specs.BTreeMap.{get};
 ghost use Rattle.std.specs.List.{slice_get};
@@ -23,19 +23,19 @@ use sal_types::{NoMemory, append};
 use std::alloc::Global;
 use std::collections::BTreeMap;
 
-/// Where a statement stands.
+/// The place of a statement.
 #[derive(Clone, Copy, Debug, PartialEq, Eq, PartialOrd, Ord)]
 pub(crate) struct Place {
-    /// The number of its module.
+    /// The index of its module.
     pub source: u32,
-    /// How many bytes of that module's text stand before it.
+    /// The byte offset in that module's text.
     pub at: u32,
 }
 
 /// The first number with each place.
 type Places = BTreeMap<Place, usize>;
 
-/// What the type statement in a statement means, its leafrefs still paths, and those leafrefs.
+/// The type in a statement, with leafrefs as paths, and its leafrefs.
 #[derive(Drop)]
 pub(crate) struct Typing<'a> {
     pub place: Place,
@@ -43,14 +43,14 @@ pub(crate) struct Typing<'a> {
     pub leafrefs: Vec<Leafref<'a>>,
 }
 
-/// What the type statements of nodes mean, by the places of the statements in which they stand.
+/// The types of nodes, by the places of their statements.
 #[derive(Drop)]
 pub(crate) struct NodeTypes<'a> {
     pub all: Vec<Typing<'a>>,
     pub places: Places,
 }
 
-/// How deep the blocks of a statement may be open in one another.
+/// The largest depth of nested blocks of a statement.
 const MAX_BLOCKS: u32 = 64;
 
 // ---- places
@@ -73,7 +73,7 @@ fn place_of_node(branch: &Branch) -> Place
     }
 }
 
-/// The place has this number, whatever it had.
+/// Sets the number of the place, and replaces an earlier one.
 fn put(map: &mut Places, place: Place, k: usize) -> Result<(), NoMemory>
     ensures { IfOk result (λ _. (q : Spot) → get spec.place_cmp map.new q ≡ (if spec.same_place q place then Some k else get spec.place_cmp map.old q)) }
 {
@@ -89,7 +89,7 @@ fn numbered(places: &[Place], k: usize) -> Place
     places[k]
 }
 
-/// The numbers of these places: the first of each. From the last one to the first, so that the first counts.
+/// The numbers of these places: the first of each. From the last one to the first, so that the first is used.
 fn by_place(alloc: Global, places: &[Place]) -> Result<Places, NoMemory>
     ensures { IfOk result (λ map. spec.AreFirst places.now map) }
 {
@@ -125,7 +125,7 @@ fn own_places(alloc: Global, all: &[Typing]) -> Result<Vec<Place>, NoMemory>
 
 // ---- one statement
 
-/// A module whose statements are gone through, and the places of those that are kept.
+/// A module whose statements are visited, and the places to keep.
 #[derive(Drop)]
 struct Keeper<'x, 'a> {
     alloc: Global,
@@ -134,7 +134,7 @@ struct Keeper<'x, 'a> {
     number: u32,
 }
 
-/// What a type statement in these blocks means, or the type without values where it has a fault.
+/// The type of a type statement in these blocks, or the empty type if it has a fault.
 fn stated_type<'j, 'x, 'a>(
     keeper: &'j Keeper<'x, 'a>,
     around: &'j [Block<'a>],
@@ -152,7 +152,7 @@ fn stated_type<'j, 'x, 'a>(
     }
 }
 
-/// The leafrefs among a type statement in these blocks and those that it rests on.
+/// The leafrefs among a type statement in these blocks and those that it depends on.
 fn stated_leafrefs<'j, 'x, 'a>(
     keeper: &'j Keeper<'x, 'a>,
     around: &'j [Block<'a>],
@@ -167,7 +167,7 @@ fn stated_leafrefs<'j, 'x, 'a>(
     }
 }
 
-/// What is kept of a statement, whose own block is the innermost of these.
+/// The entry for a statement, whose own block is the innermost of these.
 fn own_at<'j, 'x, 'a>(
     keeper: &'j Keeper<'x, 'a>,
     around: &'j [Block<'a>],
@@ -186,7 +186,7 @@ fn own_at<'j, 'x, 'a>(
     })
 }
 
-/// Keeps what is wanted of a statement in these blocks.
+/// Adds the entry for a statement in these blocks, if it is wanted.
 fn push_here<'j, 'x, 'a>(
     all: &mut Vec<Typing<'a>>,
     keeper: &'j Keeper<'x, 'a>,
@@ -209,7 +209,7 @@ fn push_here<'j, 'x, 'a>(
 
 // ---- all statements
 
-/// Keeps what is wanted of a statement and of those in so many levels below it.
+/// Adds the entries for a statement and for those in `levels` levels below it, if they are wanted.
 fn push_stmt<'j, 'x, 'a>(
     all: &mut Vec<Typing<'a>>,
     keeper: &'j Keeper<'x, 'a>,
@@ -233,7 +233,7 @@ fn push_stmt<'j, 'x, 'a>(
     Ok(())
 }
 
-/// What is wanted of all statements, in the order of the texts.
+/// The wanted entries of all statements, in the order of the texts.
 fn typings_of<'x, 'a>(
     alloc: Global,
     modules: &'a Modules,
@@ -258,9 +258,9 @@ fn typings_of<'x, 'a>(
     Ok(all)
 }
 
-/// What the type statements of these nodes mean, their leafrefs still paths.
+/// The types of these nodes' type statements, with leafrefs as paths.
 ///
-/// It takes time linear in the statements, in the nodes, and in what their type statements rest on, times the logarithm of
+/// It takes time linear in the statements, in the nodes, and in what their type statements depend on, times the logarithm of
 /// the nodes.
 pub(crate) fn node_types<'x, 'a>(
     alloc: Global,
@@ -285,7 +285,7 @@ fn typing_at<'t, 'a>(all: &'t [Typing<'a>], i: usize) -> Option<&'t Typing<'a>>
     all.get(i)
 }
 
-/// What is kept of the statement of a node.
+/// The entry for the statement of a node.
 fn typing_of<'t, 'a>(types: &'t NodeTypes<'a>, branch: &Branch) -> Option<&'t Typing<'a>>
     requires { spec.AreFirst (spec.places_of (spec.owns types.now.all.items)) types.now.places }
     ensures { option_map spec.own_of (option_copied result) ≡ spec.found_for (spec.owns types.now.all.items) branch.now }
@@ -315,7 +315,7 @@ fn type_of_node(
     }
 }
 
-/// A second list of the same leafrefs.
+/// A copy of the leafrefs.
 fn copies<'a>(alloc: Global, list: &[Leafref<'a>]) -> Result<Vec<Leafref<'a>>, NoMemory>
     ensures { IfOk result (λ all. map leafref_seen all.items ≡ map leafref_seen list.now) }
 {
@@ -353,8 +353,8 @@ fn leafrefs_of_node<'a>(
 
 // ---- of all nodes
 
-/// What the type statement of each node means, its leafrefs still paths; the type without values where a node has none, or
-/// one with a fault.
+/// The type of each node's type statement, with leafrefs as paths; the empty type if a node has none, or one with a
+/// fault.
 ///
 /// It takes a search among the statements for each node.
 pub(crate) fn own_types(
@@ -373,7 +373,7 @@ pub(crate) fn own_types(
     Ok(all)
 }
 
-/// The leafrefs of each node: those among its type statement and those that it rests on, in order.
+/// The leafrefs of each node: those among its type statement and those that it depends on, in order.
 ///
 /// It takes the time of `own_types`.
 pub(crate) fn leafrefs_of_nodes<'x, 'a>(

@@ -13,16 +13,16 @@ use sal_typedefs::{Block, Typedefs, name_fault_at, other_fault_at};
 use sal_types::{NoMemory, append};
 use std::alloc::Global;
 
-/// Which faults of type statements are asked for.
+/// Which faults of type statements are looked for.
 #[derive(Clone, Copy, Debug, PartialEq, Eq)]
 pub(crate) enum Asked {
-    /// Those of names.
+    /// Faults of names.
     Names,
-    /// Those of restrictions and patterns.
+    /// Faults of restrictions and patterns.
     Others,
 }
 
-/// How deep the blocks of a statement may be open in one another.
+/// The largest depth of nested blocks of a statement.
 const MAX_BLOCKS: u32 = 64;
 
 fn is_leaf_or_type(stmt: &Stmt) -> bool
@@ -32,7 +32,7 @@ fn is_leaf_or_type(stmt: &Stmt) -> bool
     word == "leaf" || word == "type"
 }
 
-/// Whether what stands in a statement means something. Most statements are leafs and their types: their words are looked at first.
+/// Whether the content of a statement has a meaning. Most statements are leafs and types: these keywords are tried first.
 fn is_read(stmt: &Stmt) -> bool
     ensures { result ≡ spec.is_read stmt.now }
 {
@@ -51,7 +51,7 @@ fn merge(best: Option<Found>, found: Option<Found>) -> Option<Found>
     }
 }
 
-/// A module whose type statements are judged, and which of their faults are asked for.
+/// A module whose type statements are checked, and which of their faults are looked for.
 #[derive(Drop)]
 struct Judge<'x, 'a> {
     alloc: Global,
@@ -73,7 +73,7 @@ fn fault_at<'j, 'x, 'a>(
     }
 }
 
-/// The least of this fault and those of a statement, where it is a `type`.
+/// The first of this fault and those of a statement, if it is a `type`.
 fn with_here<'j, 'x, 'a>(
     best: Option<Found>,
     judge: &'j Judge<'x, 'a>,
@@ -89,9 +89,9 @@ fn with_here<'j, 'x, 'a>(
     Ok(merge(best, found))
 }
 
-/// The least of this fault and those of the type statements among a statement and those in so many levels below it.
+/// The first of this fault and those of the type statements among a statement and those in `levels` levels below it.
 ///
-/// The blocks are those around the statement, and are the same again afterwards.
+/// `around` are the blocks around the statement; afterwards they are the same again.
 fn with_stmt<'j, 'x, 'a>(
     best: Option<Found>,
     judge: &'j Judge<'x, 'a>,
@@ -145,7 +145,7 @@ fn type_fault<'x, 'a>(
 
 /// The first fault of names in type statements, or none (RFC 7950 sections 5.5, 7.3 and 9.9.2).
 ///
-/// It takes time linear in the statements, and in what each type statement rests on.
+/// It takes time linear in the statements, and in what each type statement depends on.
 pub(crate) fn type_name_fault<'x, 'a>(
     alloc: Global,
     modules: &'a Modules,
@@ -159,7 +159,7 @@ pub(crate) fn type_name_fault<'x, 'a>(
 
 /// The first fault of restrictions and patterns in type statements, or none (RFC 7950 section 9).
 ///
-/// It takes time linear in the statements, and in what each type statement rests on.
+/// It takes time linear in the statements, and in what each type statement depends on.
 pub(crate) fn type_other_fault<'x, 'a>(
     alloc: Global,
     modules: &'a Modules,

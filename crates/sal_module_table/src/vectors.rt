@@ -11,7 +11,7 @@ ghost use Rattle.sal_module_table.specs.Lists.{words_of};
 
 use sal_module::Cause;
 
-/// The definitions give what the examples say. A call does nothing: its clauses are the laws.
+/// The examples as clauses. A call does nothing.
 pub fn examples()
     ensures words { words_of (codes " a\n b:c ") ≡ codes "a" ∷ codes "b:c" ∷ [] }
     ensures good { example.list_fault (example.key_of "k") example.its_forest ≡ None }
@@ -26,7 +26,7 @@ pub fn examples()
     ensures circle { example.identity_fault (example.two_identities "b" "a") ≡ found Cause.NameCycle 0 12 }
 {}
 
-/// A later version says of the older numbers what the first one says; its new nodes follow. A call does nothing: its clauses are the laws.
+/// A later version has the same lines for the older numbers as the first one; its new nodes follow. A call does nothing: its clauses are the laws.
 pub fn versions()
     ensures first { infos_of (version.topo ∷ []) version.first_nodes ≡ version.first_lines }
     ensures later { infos_of (version.topo ∷ version.geo ∷ []) version.later_nodes ≡ version.later_lines }

@@ -1,4 +1,4 @@
-//! Versions of modules: the table of each, and the nodes from which the next version grows.
+//! Versions of modules: the table of each, and the nodes with which the next version begins.
 ghost use Rattle.std.specs.Prelude.{◌≤◌, ◌<◌, ◌^◌, length};
 ghost use Rattle.sal_types.specs.Reading.{GivesUnless};
 ghost use Rattle.sal_module.specs.declared.fault.BuildFault.{BuildFault as Fault};
@@ -13,7 +13,7 @@ use sal_schema::{SchemaTable, table_on};
 use sal_stmt::Stmt;
 use std::alloc::Global;
 
-/// A version of modules: its table, and the nodes from which the next one grows.
+/// A version of modules: its table, and the nodes with which the next one begins.
 #[derive(Drop)]
 pub struct Version {
     pub growth: Growth,
@@ -47,7 +47,7 @@ pub fn first_version(alloc: Global, stmts: &[Stmt]) -> Result<Version, BuildFaul
     with_table(alloc, &modules, growth)
 }
 
-/// The table of these nodes, or the first fault of types, then of lists. The modules before number `old` are those of an earlier version.
+/// The table of these nodes, or the first fault of types, then of lists. The modules before index `old` are those of an earlier version.
 fn judged_on(
     alloc: Global,
     modules: &Modules,
@@ -61,14 +61,14 @@ fn judged_on(
     judge_on(alloc, modules, old, &forest)
 }
 
-/// The older version of modules, from which the next one is made.
+/// The older version of modules, the input of the next one.
 #[derive(Drop)]
 pub struct Older<'a> {
     /// Its nodes.
     pub growth: &'a Growth,
     /// Its table.
     pub table: &'a SchemaTable,
-    /// How many of the next version's modules it has. They come first.
+    /// The number of its modules: the first ones of the next version.
     pub count: usize,
 }
 
@@ -89,8 +89,8 @@ fn with_table_on(
 
 /// The next version, of all these statements, or their first fault. The first of the statements are those of the older version.
 ///
-/// The faults are those of all statements at once, and that of an identity of a new module whose base is an identity of an old one. What the older table
-/// says of its numbers stays. The trees of the new modules follow, then the nodes of their augments.
+/// The faults are those of all statements at once, and that of an identity of a new module whose base is an identity of an old one. The lines of
+/// the older table stay. The trees of the new modules follow, then the nodes of their augments.
 pub fn next_version(alloc: Global, stmts: &[Stmt], older: &Older) -> Result<Version, BuildFault>
     requires counted { steps_of stmts.now < 2 ^ 32 }
     requires old { older.now.count ≤ length stmts.now }

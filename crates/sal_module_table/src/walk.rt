@@ -1,4 +1,4 @@
-//! Where the paths of leafrefs lead.
+//! The targets of the paths of leafrefs.
 ghost use Rattle.std.specs.Prelude.{◌≡◌, ◌==◌, ◌<◌, ◌≤◌, None, IfOk, length};
 ghost use Rattle.std.specs.Option.{option_copied};
 ghost use Rattle.std.specs.BTreeMap.{get};
@@ -15,14 +15,14 @@ use sal_schema::Kind;
 use sal_types::{NoMemory, Str};
 use std::alloc::Global;
 
-/// What paths are followed by.
+/// The indexes for paths.
 #[derive(Drop)]
 pub(crate) struct Ways {
-    /// The node that data stand under where they stand under each node.
+    /// For each node, the data parent of its children.
     pub data_nodes: Vec<Option<u32>>,
-    /// The input, output or notification in which each node stands.
+    /// The input, output or notification that contains each node.
     pub messages: Vec<Option<u32>>,
-    /// The nodes for data by the nodes that their data stand under, and their names.
+    /// The data nodes by their data parents and names.
     pub children: Children,
 }
 
@@ -48,7 +48,7 @@ fn messages_of(
     Ok(all)
 }
 
-/// The ways of a forest.
+/// The indexes for the paths of a forest.
 pub(crate) fn ways_of(alloc: Global, modules: &Modules, forest: &[Branch]) -> Result<Ways, NoMemory>
     requires { length forest.now ≤ 65536 }
     ensures { IfOk result (λ ways. spec.AreWays modules.now forest.now ways) }
@@ -75,7 +75,7 @@ fn above_node(paths: &Paths, branch: &Branch) -> Option<u32>
     }
 }
 
-/// The node that the data of a node stand under.
+/// The data parent of a node.
 fn place_of(paths: &Paths, branch: &Branch) -> Option<u32>
     ensures { result ≡ inherited.data_parent paths.now.modules.now paths.now.forest.now branch.now.parent }
 {
@@ -124,7 +124,7 @@ fn start_of(paths: &Paths, place: Option<u32>, up: usize) -> Option<Option<u32>>
 
 // ---- down
 
-/// Where a path begins: the message in which its leaf stands, the leaf's module, and the module whose text has the path.
+/// The start of a path: the message that contains its leaf, the leaf's module, and the module whose text has the path.
 #[derive(Clone, Copy)]
 struct Origin {
     message: Option<u32>,
@@ -171,7 +171,7 @@ fn data_child(
     Ok(find(&paths.ways.children, key))
 }
 
-/// The own message, where a name at the top is that of its operation.
+/// The message of the leaf itself, if a name at the top is that of its operation.
 fn own_message(
     paths: &Paths,
     own: Option<u32>,
@@ -272,7 +272,7 @@ fn message_at(modules: &Modules, forest: &[Branch], messages: &[Option<u32>], k:
     }
 }
 
-/// The leaf or leaf-list to which a path leads from a leaf: it goes up so often, or begins at the top, and down by these names.
+/// The leaf or leaf-list at the end of a path from a leaf: it goes up `up` steps, or begins at the top, and down by these names.
 pub(crate) fn end_of(
     paths: &Paths,
     k: u32,

@@ -23,7 +23,7 @@ fn word_len(text: &str) -> usize
         .count()
 }
 
-/// Where the first blank stands.
+/// The offset of the first white space.
 fn blank_at(text: &str) -> Option<usize>
     ensures { MatchOption result (length text.now ≤ prefix_len (λ c. not (is_blank_byte c)) text.now) (λ i. (i ≡ prefix_len (λ c. not (is_blank_byte c)) text.now) × (i < length text.now) × (slice_index text.now i < 128)) }
 {
@@ -31,7 +31,7 @@ fn blank_at(text: &str) -> Option<usize>
     if len < text.len() { Some(len) } else { None }
 }
 
-/// The word goes behind these, if it has a byte.
+/// Appends the name, unless it is empty.
 fn push_word(words: &mut Vec<Str>, alloc: Global, word: &str) -> Result<(), NoMemory>
     ensures { IfOk result (λ _. words.new.items ≡ words.old.items ++ filter (λ w. not (is_empty w)) (word.now ∷ [])) }
 {
@@ -41,7 +41,7 @@ fn push_word(words: &mut Vec<Str>, alloc: Global, word: &str) -> Result<(), NoMe
     Ok(())
 }
 
-/// What stands between blanks.
+/// The parts of a text between white space.
 pub(crate) fn words_of(alloc: Global, text: &str) -> Result<Vec<Str>, NoMemory>
     ensures { IfOk result (λ words. words.items ≡ spec.words_of text.now) }
 {

@@ -1,4 +1,4 @@
--- Worked examples of mounts, with two devices beside the controller's own domain.
+-- Worked examples of mounts, with two devices other than the controller's own domain.
 use Rattle.std.specs.Prelude.{ℕ, List, [], ◌∷◌, map}
 use Rattle.sal_types.specs.declared.value.Step.{Step}
 use Rattle.sal_types.specs.declared.value.Step.TheVariants.{Node}

@@ -1,4 +1,4 @@
--- What is kept of the calls on mounts, by number and by path.
+-- The register of calls on mounts, by number and by path.
 use Rattle.std.specs.Prelude.{◌≡◌, ℕ, Bool, true, false, not, List, [], ◌∷◌, Option, Some, None, if◌then◌else◌}
 use Rattle.std.specs.BTreeMap.{is_at}
 use Rattle.std.specs.Map.{lookup}
@@ -11,14 +11,14 @@ use Rattle.sal_mount.specs.declared.call.MountFault.{MountFault}
 use Rattle.sal_mount.specs.declared.call.MountFault.TheVariants.{NoDomain, DeviceUsed, MountTaken}
 use Rattle.sal_mount.specs.Mounts.{Made, fault_if, is_device, is_unmounted, made_of, standing, was_mounted}
 
--- How many domains there are, the controller's own among them; which device was mounted last at a path; and of each device that
+-- The number of domains, the controller's own included; which device was mounted last at a path; and for each device that
 -- was ever mounted, whether it still is.
 pub record Register : Type 0 where
   pub devices : ℕ
   pub places : List (List Step × ℕ)
   pub states : List (ℕ × Bool)
 
--- nothing, where the device was never mounted
+-- none if the device was never mounted
 abbrev pub state_at : List (ℕ × Bool) → ℕ → Option Bool
 state_at states device = lookup (is_at (nat_cmp device)) states
 
@@ -50,7 +50,7 @@ abbrev pub listed : Option ℕ → List ℕ
 listed None = []
 listed (Some device) = device ∷ []
 
--- the register is kept of these calls
+-- the register is that of these calls
 pub record IsKept (made : List Made) (r : Register) : Type 0 where
   pub states : (device : ℕ) → state_at r.states device ≡ state_of (was_mounted made device) (is_unmounted made device)
   pub standing_at : (path : List Step) → standing made path ≡ listed (live_at r path)

@@ -1,4 +1,4 @@
-//! The calls on mounts, and what they are answered.
+//! The calls on mounts, and their replies.
 use sal_types::Path;
 use thiserror::Error;
 
@@ -16,8 +16,8 @@ pub enum MountCall {
 /// Why a call was refused.
 #[derive(Clone, Copy, Debug, PartialEq, Eq, Error)]
 pub enum MountFault {
-    /// To a mount: there is no such device beside the controller's own. To an unmount: the domain is the controller's own, or is not
-    /// mounted.
+    /// For a mount: no device other than the controller's own has this number. For an unmount: the domain is the controller's own, or
+    /// is not mounted.
     #[error("no live domain {id}")]
     NoDomain { id: u32 },
     /// The device was mounted before. A device is mounted once at most.
@@ -30,12 +30,12 @@ pub enum MountFault {
     NoMemory,
 }
 
-/// The answer to a call.
+/// The reply to a call.
 #[derive(Clone, Copy, Debug, PartialEq, Eq)]
 pub enum MountReply {
-    /// The call was done, and has nothing to tell.
+    /// The call was done; there is no other result.
     Accepted,
-    /// The domain that is mounted at the path, if one is.
+    /// The domain that is mounted at the path, if any.
     MountAt { mount: Option<u32> },
     /// The call was refused.
     Refused { fault: MountFault },

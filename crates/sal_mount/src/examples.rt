@@ -1,4 +1,4 @@
-//! Worked examples of mounts. Each function does nothing; its contract says what the definitions give for some calls, and the
+//! Worked examples of mounts. Each function does nothing; its contract states what the definitions give for some calls, and the
 //! proof computes it. There are two devices, 1 and 2.
 #![tactic(auto)]
 
@@ -18,13 +18,13 @@ pub fn mounted_once()
     ensures own { is_live [] 0 ≡ true }
 {}
 
-/// One live mount stands at a path; once it is gone, another device may be mounted there.
+/// A path has at most one live mount; after its unmount another device may be mounted there.
 pub fn one_mount_at_a_path()
     ensures { replies (Mount (there 7) 1 ∷ Mount (there 7) 2 ∷ Unmount 1 ∷ Mount (there 7) 2 ∷ Asks (there 7) ∷ [])
         ≡ Accepted ∷ Refused (MountTaken 1) ∷ Accepted ∷ Accepted ∷ MountAt (Some 2) ∷ [] }
 {}
 
-/// The controller's own domain is no device, nor is a number that the list of devices has not.
+/// The controller's own domain is no device, and neither is a number that the list of devices lacks.
 pub fn no_device()
     ensures { replies (Mount (there 7) 0 ∷ Mount (there 7) 3 ∷ Unmount 0 ∷ Unmount 2 ∷ [])
         ≡ Refused (NoDomain 0) ∷ Refused (NoDomain 3) ∷ Refused (NoDomain 0) ∷ Refused (NoDomain 2) ∷ [] }

@@ -32,7 +32,7 @@ impl Model for Mounts {
 }
 
 impl Mounts {
-    /// Nothing is mounted. There are so many domains, the controller's own among them. It takes no memory.
+    /// No mounts. `devices` is the number of domains, the controller's own included. It takes no memory.
     pub fn new(alloc: Global, devices: u32) -> Mounts
         ensures devices { result.devices ≡ devices }
         ensures calls { IsOf [] result }
@@ -44,8 +44,8 @@ impl Mounts {
         }
     }
 
-    /// Mounts the device at the path. It is refused as `NoDomain` where there is no such device beside the controller's own domain,
-    /// as `DeviceUsed` where the device was mounted before, and as `MountTaken` where another one is mounted at the path.
+    /// Mounts the device at the path. Refused as `NoDomain` if no device other than the controller's own domain has this number,
+    /// as `DeviceUsed` if the device was mounted before, and as `MountTaken` if another one is mounted at the path.
     pub fn mount(&mut self, path: &Path, device: u32) -> Result<(), MountFault>
         ensures { Answers self.old self.new (Mount path.now device) (λ _. Accepted) result }
     {
@@ -58,7 +58,7 @@ impl Mounts {
         }
     }
 
-    /// Unmounts the domain. It is refused as `NoDomain` where the domain is the controller's own, or not mounted. It takes no memory.
+    /// Unmounts the domain. Refused as `NoDomain` if the domain is the controller's own, or not mounted. It takes no memory.
     pub fn unmount(&mut self, domain: u32) -> Result<(), MountFault>
         ensures { AnswersAlways self.old self.new (Unmount domain) (λ _. Accepted) result }
     {
@@ -69,7 +69,7 @@ impl Mounts {
         Ok(())
     }
 
-    /// The domain that is mounted at the path, if one is. It takes no memory.
+    /// The domain that is mounted at the path, if any. It takes no memory.
     pub fn mount_at(&self, path: &Path) -> Option<u32>
         ensures at { result ≡ live_at self.now path.now }
         ensures answer { Makes self.now self.now (Asks path.now) (MountAt result) }
@@ -118,7 +118,7 @@ fn live_at(places: &BTreeMap<Path, u32>, states: &BTreeMap<u32, bool>, path: &Pa
     }
 }
 
-// Puts the device at the path. For want of memory all stays as it was.
+// Sets the device of the path. If memory runs out, nothing changes.
 fn put(
     places: &mut BTreeMap<Path, u32>,
     states: &mut BTreeMap<u32, bool>,
@@ -140,7 +140,7 @@ fn put(
     Err(NoMemory)
 }
 
-// The device is not mounted any more.
+// Records that the device is no longer mounted.
 fn take_down(states: &mut BTreeMap<u32, bool>, device: u32)
     requires { is_some (state_at states.old.entries device) ≡ true }
     ensures { (d : ℕ) → state_at states.new.entries d ≡ (if nat_eq device d then Some false else state_at states.old.entries d) }

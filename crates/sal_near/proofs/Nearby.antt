@@ -1,6 +1,6 @@
 -- What is whole near the patches is whole everywhere.
 use Rattle.std.proofs.Common.{◌≡◌, ◌⊎◌, inl, inr, ⊎_elim, Bool, true, false, not, ◌&&◌, List, [], ◌∷◌, ◌++◌, Option, Some, if◌then◌else◌, refl, ap, sym, ◌∙◌}
-use Rattle.std.specs.Prelude.{◌||◌, map}
+use Rattle.std.specs.Prelude.{◌||◌}
 use Rattle.std.specs.List.{list_all, list_any}
 use Rattle.std.proofs.lemmas.Bool.{and_parts, and_from}
 use Rattle.sal_types.specs.declared.value.Cell.{Cell}
@@ -17,12 +17,11 @@ use Rattle.sal_rows.specs.Patch.{with_cell, patched}
 use Rattle.sal_rows.proofs.Cells.{same_path}
 use Rattle.sal_rows.proofs.Patched.{ascending-with_cell, cell-with_cell}
 use Rattle.sal_schema.specs.declared.table.SchemaTable.{SchemaTable}
-use Rattle.sal_schema.specs.Fitting.{prefixes, is_whole_at, is_in_message, is_closed}
+use Rattle.sal_schema.specs.Fitting.{is_whole_at, is_in_message, is_closed}
 use Rattle.sal_schema.specs.Paths.{fits_path}
-use Rattle.sal_history_laws.proofs.Fronts.{same_step, step_itself, front_itself}
+use Rattle.sal_history_laws.proofs.Fronts.{all_fronts, of_fronts, same_step, front_itself}
 use Rattle.sal_history_laws.proofs.Standing.{stands_below, has_where}
 use Rattle.sal_history_laws.proofs.Wholes.{Fits, AllFit, fits-AllFit, AllFit-fits, same_whole}
-use Rattle.std.proofs.lemmas.List.Folds.{list_all-map}
 use Rattle.sal_near.specs.Near.{cell_or_none_fits, patch_fits, patches_fit, is_whole_to, is_near, are_near}
 
 -- ---- patched rows
@@ -66,23 +65,6 @@ from_patch t (p ∷ ps) rows r c all e =
       | false ↦ λ is f. inr f
     ] refl now)
     (from_patch t ps (with_cell rows p.path p.cell) r c rest e)
-
--- ---- all fronts of a path
-
-all_fronts : (t : List Step → Bool) (r q : List Step) → list_all t (prefixes r) ≡ true → is_prefix q r ≡ true → t q ≡ true
-all_fronts t [] [] all below = (and_parts (t []) true all).0
-all_fronts t [] (s ∷ q) all below = cc
-all_fronts t (u ∷ r) [] all below = (and_parts (t []) (list_all t (map (λ p. u ∷ p) (prefixes r))) all).0
-all_fronts t (u ∷ r) (s ∷ q) all below =
-    let (here, rest) = and_parts (eq_by_cmp step_cmp s u) (is_prefix q r) below in
-    let later = (and_parts (t []) (list_all t (map (λ p. u ∷ p) (prefixes r))) all).1 in
-    ap (λ x. t (x ∷ q)) (same_step s u here) ∙ all_fronts (λ p. t (u ∷ p)) r q (sym (list_all-map t (λ p. u ∷ p) (prefixes r)) ∙ later) rest
-
-of_fronts : (t : List Step → Bool) (r : List Step) → ((q : List Step) → is_prefix q r ≡ true → t q ≡ true) → list_all t (prefixes r) ≡ true
-of_fronts t [] all = and_from (t []) true (all [] refl) refl
-of_fronts t (u ∷ r) all =
-    and_from (t []) (list_all t (map (λ p. u ∷ p) (prefixes r))) (all [] refl)
-    (list_all-map t (λ p. u ∷ p) (prefixes r) ∙ of_fronts (λ p. t (u ∷ p)) r (λ q below. all (u ∷ q) (ap (λ b. b && is_prefix q r) (step_itself u) ∙ below)))
 
 -- ---- patches under a path
 

@@ -1,4 +1,4 @@
-//! Whether rows that were patched are closed and without state data, by a look near the patches.
+//! Whether patched rows are closed and without state data, by checks near the patches.
 //!
 //! | item | what it is |
 //! |---|---|
@@ -7,7 +7,7 @@
 //! | `laws` | functions that do nothing; their contracts say that both tests are exact |
 //!
 //! `specs/Near` defines both tests. A tree is closed if each list entry and presence container above a row has its own row, and an entry its key
-//! leafs (`is_closed` of `sal_schema`). Patches change the cells at their own paths alone. So of the entries and presence containers only those at
+//! leafs (`is_closed` of `sal_schema`). Patches change only the cells at their own paths. So only the entries and presence containers at
 //! the paths of patches, and above them, can cease to be whole.
 //!
 //! ```
@@ -15,8 +15,8 @@
 //! let closed = are_near(&schema, &rows, patches.items());
 //! ```
 //!
-//! Costs: for each entry and presence container above a patch, one search by halves for its row and one for each key leaf; those above the patch
-//! before it are passed over. If one is not whole, one search more, for a row below it. Neither call takes memory.
+//! Costs: for each entry and presence container above a patch, one binary search for its row and one for each key leaf; those above the patch
+//! before it are skipped. If one is not whole, one search more, for a row below it. Neither call takes memory.
 #![tactic(auto)]
 
 mod cells;

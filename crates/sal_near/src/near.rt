@@ -1,38 +1,17 @@
 //! Whether rows are closed near patches.
 ghost use Rattle.std.specs.Prelude.{◌≡◌, ◌≤◌, ◌&&◌, true, not, length};
-ghost use Rattle.std.specs.List.{common_prefix_len};
 ghost use Rattle.sal_types.specs.Tree.{IsAscending, has};
 ghost use Rattle.sal_schema.specs.Fitting.{is_in_message};
-ghost use Rattle.sal_data.specs.Read.{same_step};
 ghost use Rattle.sal_near.specs.Near as spec;
 
 use crate::cells::has_at;
 use crate::whole::is_whole_if_there;
+use sal_data::shared;
 use sal_rows::{Patch, Rows};
 use sal_schema::Schema;
 use sal_types::{Path, Row, Step};
 
-// How many steps two paths begin with alike.
-fn shared(before: &[Step], steps: &[Step]) -> usize
-    ensures count { result ≡ common_prefix_len same_step before.now steps.now }
-    ensures within { result ≤ length before.now }
-{
-    match before {
-        [] => 0,
-        [first, before @ ..] => match steps {
-            [] => 0,
-            [step, steps @ ..] => {
-                if first.cmp(step).is_eq() {
-                    1 + shared(before, steps)
-                } else {
-                    0
-                }
-            }
-        },
-    }
-}
-
-// Whether the entries and presence containers at a path and above it are whole, where those of the path `before` are.
+// Whether the entries and presence containers at a path and above it are whole, if those of the path `before` are.
 fn is_whole_to(schema: &Schema, rows: &[Row], before: &[Step], steps: &[Step]) -> bool
     requires rising { IsAscending rows.now }
     requires whole { spec.is_whole_to schema.now rows.now before.now ≡ true }
@@ -55,7 +34,7 @@ fn is_message(schema: &Schema, rows: &[Row], path: &Path) -> bool
     schema.is_in_message(path) && has_at(rows, path.steps())
 }
 
-// Whether all near a patch is whole, where all near the path `before` is.
+// Whether all near a patch is whole, if all near the path `before` is.
 fn is_near(schema: &Schema, rows: &[Row], before: &[Step], patch: &Patch) -> bool
     requires rising { IsAscending rows.now }
     requires whole { spec.is_whole_to schema.now rows.now before.now ≡ true }

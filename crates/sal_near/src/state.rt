@@ -1,9 +1,9 @@
-//! Whether patches left state data.
+//! Whether patches set state data.
 ghost use Rattle.std.specs.Prelude.{◌≡◌};
 ghost use Rattle.sal_types.specs.Tree.{IsAscending};
 ghost use Rattle.sal_near.specs.Near as spec;
 
-use crate::cells::cell_at;
+use sal_data::cell_at;
 use sal_rows::{Patch, Rows};
 use sal_schema::Schema;
 use sal_types::Row;

@@ -89,3 +89,18 @@ changed-few ps x o i p cs new l at pages is e =
     let g : length (row_of new) ≡ length (change x o (row_of cs)) = ap length e in
     let h = change-length x o (row_of cs) in
     omega arith
+
+pub changed-row : (x : Step) (o : Option Tree) (cs new : List (Arc Child Global)) → length cs ≤ 64 → row_of new ≡ change x o (row_of cs) → length new ≤ 65
+changed-row x o cs new fits e =
+    let n = row_of-length new in
+    let m = row_of-length cs in
+    let g : length (row_of new) ≡ length (change x o (row_of cs)) = ap length e in
+    let h = change-length x o (row_of cs) in
+    omega arith
+
+pub copied-few : (old new cs : List (Arc Child Global)) → old ≡ [] → length cs ≤ 64 → row_of new ≡ row_of old ++ row_of cs → length new ≤ 64
+copied-few old new cs none fits e =
+    let n = row_of-length new in
+    let m = row_of-length cs in
+    let g : length (row_of new) ≡ length (row_of cs) = ap length e ∙ ap (λ (os : List (Arc Child Global)). length (row_of os ++ row_of cs)) none in
+    omega arith

@@ -10,7 +10,7 @@ use Rattle.sal_node.specs.Shape.{row_of, listed, sheeted, paged}
 use Rattle.sal_node.specs.declared.node.Page.{Page}
 use Rattle.sal_node.specs.declared.node.Sheet.{Sheet}
 use Rattle.sal_node.specs.declared.node.Paging.{Paging}
-use Rattle.sal_node.specs.declared.node.Paging.TheVariants.{Pages, Sheets}
+use Rattle.sal_node.specs.declared.node.Paging.TheVariants.{Few, Pages, Sheets}
 use Rattle.sal_node.specs.declared.node.Child.{Child}
 use Rattle.sal_node.specs.declared.node.Node.TheInside.{Inside}
 use Rattle.sal_node.specs.declared.node.Node.TheDeep.{deep-Node, deep-Paging, deep-Sheet, deep-Page, deep-Child}
@@ -41,7 +41,12 @@ sheets-fall : (ss : List (Arc Sheet Global)) → most (λ (s : Arc Sheet Global)
 sheets-fall [] = omega arith
 sheets-fall (s ∷ ss) = omega (arith, sheet-falls s.value (sheeted ss), sheets-fall ss, rest-falls (listed s.value.pages.items) (sheeted ss))
 
+few-fall : (cs : List (Arc Child Global)) → most (λ (c : Arc Child Global). deep-Child c.value) cs ≤ weight (grove (row_of cs))
+few-fall [] = omega arith
+few-fall (c ∷ cs) = omega (arith, few-fall cs)
+
 paging-falls : (k : Paging) → deep-Paging k ≤ weight (grove (paged k))
+paging-falls (Few cs) = let h = few-fall cs.items in omega arith
 paging-falls (Pages ps) = let h = pages-fall ps.items in omega arith
 paging-falls (Sheets ss) = let h = sheets-fall ss.items in omega arith
 

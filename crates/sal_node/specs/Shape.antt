@@ -1,4 +1,4 @@
--- The children that a node's pages hold.
+-- The children in a node's pages.
 use Rattle.std.specs.Prelude.{ℕ, ◌≤◌, nat_eq, Bool, false, List, [], ◌∷◌, ◌++◌, length, Option, Some, None}
 use Rattle.std.specs.List.{filter, list_any}
 use Rattle.std.specs.Ordering.{is_gt}
@@ -12,7 +12,7 @@ use Rattle.sal_node.specs.declared.node.Node.{Node}
 use Rattle.sal_node.specs.declared.node.Page.{Page}
 use Rattle.sal_node.specs.declared.node.Sheet.{Sheet}
 use Rattle.sal_node.specs.declared.node.Paging.{Paging}
-use Rattle.sal_node.specs.declared.node.Paging.TheVariants.{Pages, Sheets}
+use Rattle.sal_node.specs.declared.node.Paging.TheVariants.{Few, Pages, Sheets}
 use Rattle.sal_node.specs.declared.node.Child.{Child}
 use Rattle.sal_node.specs.declared.node.Node.TheInside.{Inside}
 
@@ -33,6 +33,7 @@ sheeted (s ∷ ss) = listed s.value.pages.items ++ sheeted ss
 
 -- the children of a node
 abbrev pub paged : Paging → List (Step × Tree)
+paged (Few cs) = row_of cs.items
 paged (Pages ps) = listed ps.items
 paged (Sheets ss) = sheeted ss.items
 
@@ -64,6 +65,7 @@ AreSheets [] = Unit {0}
 AreSheets (s ∷ ss) = ((1 ≤ length s.value.pages.items) × (length s.value.pages.items ≤ 64) × ArePages s.value.pages.items × UpTo s.value.newest (listed s.value.pages.items)) × AreSheets ss
 
 abbrev pub ArePaged : Paging → Type 0
+ArePaged (Few cs) = length cs.items ≤ 64
 ArePaged (Pages ps) = ArePages ps.items × (length ps.items ≤ 64)
 ArePaged (Sheets ss) = AreSheets ss.items
 
@@ -85,7 +87,7 @@ abbrev pub tree_at : Option (Bor (Arc Node Global)) → Option Tree
 tree_at None = None
 tree_at (Some n) = Some n.now.value
 
--- the children behind references
+-- the children that the references refer to
 abbrev pub seen : List (Bor Child) → List (Step × Tree)
 seen [] = []
 seen (c ∷ cs) = (c.now.step, c.now.node.value) ∷ seen cs

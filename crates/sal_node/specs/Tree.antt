@@ -1,4 +1,4 @@
--- What a node is seen as: a stamp, a cell, and children in the order of their steps.
+-- How a contract sees a node: a stamp, a cell, and children in the order of their steps.
 use Rattle.std.specs.Prelude.{ℕ, ◌+◌, Bool, true, false, List, [], ◌∷◌, Option, Some, None, T, max}
 use Rattle.std.specs.FinMap.{find, put}
 use Rattle.std.specs.FinMap.Entries.{below_all, by_order}
@@ -24,7 +24,7 @@ weight (grown x s c ks rest) = weight ks + 1 + weight rest
 abbrev pub size_of : Tree → ℕ
 size_of t = weight t.kids
 
--- how many steps the lowest node stands below the one whose children these are
+-- the number of levels of these children
 abbrev pub height : Forest → ℕ
 height bare = 0
 height (grown x s c ks rest) = max (height ks + 1) (height rest)
@@ -52,7 +52,7 @@ abbrev pub change : Step → Option Tree → List (Step × Tree) → List (Step 
 change x None es = cut x es
 change x (Some t) es = put step_cmp x t es
 
--- how many entries stand before a step
+-- how many entries have smaller steps
 abbrev pub place : Step → List (Step × Tree) → ℕ
 place x [] = 0
 place x (e ∷ es) = by_order (step_cmp x e.0) 0 0 (1 + place x es)
@@ -66,13 +66,13 @@ abbrev pub one_of : Step → Option Tree → List (Step × Tree)
 one_of x None = []
 one_of x (Some t) = (x, t) ∷ []
 
--- whether a node stands there for a reason of its own
+-- whether a node is needed: it has a cell or children
 abbrev pub is_filled : Option Cell → Forest → Bool
 is_filled (Some c) ks = true
 is_filled None bare = false
 is_filled None (grown x s c ks rest) = true
 
--- the steps rise, and each child has a cell or children
+-- the steps ascend, and each child has a cell or children
 abbrev pub IsGrove : Forest → Type 0
 IsGrove bare = Unit {0}
 IsGrove (grown x s c ks rest) = (T (below_all step_cmp x (pairs rest)) × T (is_filled c ks)) × (IsGrove ks × IsGrove rest)

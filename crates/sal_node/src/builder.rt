@@ -1,9 +1,9 @@
-//! A node made of its children in order.
+//! Builds a node from its children in order.
 ghost use Rattle.std.specs.Prelude.{◌≡◌, ◌<◌, ◌≤◌, [], ◌∷◌, ◌++◌, length, IfOk};
-ghost use Rattle.sal_node.specs.Shape.{row_of, listed, sheeted, ArePages, AreSheets};
+ghost use Rattle.sal_node.specs.Shape.{row_of, listed, sheeted, paged, ArePages, AreSheets, ArePaged};
 ghost use Rattle.sal_node.specs.Tree.{Tree, grove};
 
-use crate::node::{Child, Node, Page, Sheet};
+use crate::node::{Child, Node, Page, Paging, Sheet};
 use crate::pages::{PAGE, add_page, page_of};
 use crate::paging::joined;
 use crate::sheets::{add_sheet, sheet_of};
@@ -12,7 +12,7 @@ use std::alloc::Global;
 use std::marker::Model;
 use std::sync::Arc;
 
-/// Children that were given one after another.
+/// Children that were added one after another.
 #[derive(Drop)]
 pub struct Builder {
     sheets: Vec<Arc<Sheet>>,
@@ -38,7 +38,7 @@ impl Model for Builder {
 }
 
 impl Builder {
-    /// No children yet. It takes no memory.
+    /// No children. It takes no memory.
     pub fn new(alloc: Global) -> Builder
         ensures { result ≡ [] }
     {
@@ -49,7 +49,7 @@ impl Builder {
         }
     }
 
-    /// The children with one more at the end. Want of memory ends the builder.
+    /// The children with one more at the end. The builder is lost if memory runs out.
     pub fn push(self, alloc: Global, step: Step, node: Arc<Node>) -> Result<Builder, NoMemory>
         ensures { IfOk result (λ more. more ≡ self ++ (step, node.value) ∷ []) }
     {
@@ -75,8 +75,7 @@ impl Builder {
         ensures { IfOk result (λ n. n ≡ record { stamp = stamp; cell = cell; kids = grove self }) }
     {
         let sheets = self.sheets;
-        let pages = all_pages(alloc, self.pages, self.last)?;
-        let paging = joined(alloc, sheets, pages)?;
+        let paging = paging_of(alloc, sheets, self.pages, self.last)?;
         Ok(Node {
             stamp,
             cell,
@@ -85,7 +84,7 @@ impl Builder {
     }
 }
 
-// The builder of these pages, which are made a sheet if they are 64.
+// The builder of these pages, which become a sheet if they are 64.
 fn with_pages(
     alloc: Global,
     sheets: Vec<Arc<Sheet>>,
@@ -114,7 +113,29 @@ fn with_pages(
     })
 }
 
-// The pages and one more of the last children, if there are some.
+// The children of a builder, without pages if no page is full yet.
+fn paging_of(
+    alloc: Global,
+    sheets: Vec<Arc<Sheet>>,
+    pages: Vec<Arc<Page>>,
+    last: Vec<Arc<Child>>,
+) -> Result<Paging, NoMemory>
+    requires sheets { AreSheets sheets.items }
+    requires pages { ArePages pages.items }
+    requires few { length pages.items < 64 }
+    requires less { length last.items < 64 }
+    ensures list { IfOk result (λ k. paged k ≡ sheeted sheets.items ++ (listed pages.items ++ row_of last.items)) }
+    ensures pages { IfOk result (λ k. ArePaged k) }
+{
+    if sheets.is_empty() && pages.is_empty() {
+        return Ok(Paging::Few(last));
+    }
+    let pages = all_pages(alloc, pages, last)?;
+    let paging = joined(alloc, sheets, pages)?;
+    Ok(paging)
+}
+
+// The pages with one more page of the last children, if there are any.
 fn all_pages(
     alloc: Global,
     pages: Vec<Arc<Page>>,

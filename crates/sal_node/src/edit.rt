@@ -1,4 +1,4 @@
-//! What a node has, and nodes that differ from it in one place.
+//! The parts of a node, and nodes with one part replaced.
 ghost use Rattle.std.specs.Prelude.{◌≡◌, Option, Some, None, T, IfOk, IfSome};
 ghost use Rattle.std.specs.Prelude.{nat_eq};
 ghost use Rattle.std.specs.List.{filter, list_any};
@@ -24,8 +24,8 @@ impl Node {
         child_of(&self.paging, step)
     }
 
-    /// The node with another child at the step, or with none there. It keeps its cell and its other children, and has the
-    /// stamp given.
+    /// The node with another child at the step, or with none there. Its cell and its other children are the same, and its
+    /// stamp is the given one.
     pub fn with_child(
         &self,
         alloc: Global,
@@ -46,7 +46,7 @@ impl Node {
         Ok(changed)
     }
 
-    /// The node with another cell, or with none. It keeps its children, and has the stamp given.
+    /// The node with another cell, or with none. Its children are the same, and its stamp is the given one.
     pub fn with_cell(&self, alloc: Global, cell: Option<Cell>, stamp: u64) -> Result<Node, NoMemory>
         ensures { IfOk result (λ n. n ≡ record { stamp = stamp; cell = cell; kids = self.now.kids }) }
     {
@@ -67,7 +67,7 @@ impl Node {
         Ok(list)
     }
 
-    /// Its children with one of the stamps, in order. It looks into no page whose children all have smaller stamps.
+    /// Its children with one of the stamps, in order. It skips pages whose children all have smaller stamps.
     pub fn children_with<'a>(
         &'a self,
         alloc: Global,
@@ -100,12 +100,12 @@ impl Node {
         Node {
             stamp,
             cell,
-            paging: Paging::Pages(Vec::new(alloc)),
+            paging: Paging::Few(Vec::new(alloc)),
         }
     }
 }
 
-/// A copy of a cell that may be there.
+/// A copy of an optional cell.
 pub fn copy_cell(cell: &Option<Cell>) -> Result<Option<Cell>, NoMemory>
     ensures { IfOk result (λ it. it ≡ cell.now) }
 {

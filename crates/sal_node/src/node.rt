@@ -14,10 +14,11 @@ pub struct Node {
     pub paging: Paging,
 }
 
-/// The children of a node, in the order of their steps: in at most 64 pages, or in sheets of pages.
+/// The children of a node, in the order of their steps: at most 64 alone, or in at most 64 pages, or in sheets of pages.
 #[cycle(node)]
 #[derive(Drop)]
 pub enum Paging {
+    Few(Vec<Arc<Child>>),
     Pages(Vec<Arc<Page>>),
     Sheets(Vec<Arc<Sheet>>),
 }

@@ -18,11 +18,14 @@ use sal_types::{Duplicate, NoMemory, Step};
 use std::alloc::Global;
 use std::sync::Arc;
 
-/// How many children a page has at most.
+/// The largest number of children of a page.
 pub(crate) const PAGE: usize = 64;
 
-// Puts copies of the children at the end.
-fn copy_children(into: &mut Vec<Arc<Child>>, children: &[Arc<Child>]) -> Result<(), NoMemory>
+/// Appends copies of the children.
+pub(crate) fn copy_children(
+    into: &mut Vec<Arc<Child>>,
+    children: &[Arc<Child>],
+) -> Result<(), NoMemory>
     ensures { OnOk result (row_of into.new.items ≡ row_of into.old.items ++ row_of children.now) }
 {
     for child in children {
@@ -32,7 +35,7 @@ fn copy_children(into: &mut Vec<Arc<Child>>, children: &[Arc<Child>]) -> Result<
     Ok(())
 }
 
-/// Puts the pages at the end, shared.
+/// Appends the pages, shared.
 pub(crate) fn share_pages(into: &mut Vec<Arc<Page>>, pages: &[Arc<Page>]) -> Result<(), NoMemory>
     requires old { ArePages into.old.items }
     requires given { ArePages pages.now }
@@ -47,7 +50,7 @@ pub(crate) fn share_pages(into: &mut Vec<Arc<Page>>, pages: &[Arc<Page>]) -> Res
     Ok(())
 }
 
-// The page in which the step stands, or would stand.
+// The index of the page for the step: the page that has it, or in which it would be inserted.
 fn target(pages: &[Arc<Page>], step: &Step) -> usize
     requires { 0 < length pages.now }
     ensures { IsTarget pages.now step.now result }
@@ -75,7 +78,7 @@ pub(crate) fn is_after(children: &[Arc<Child>], step: &Step) -> bool
     }
 }
 
-// How many children stand before the step, by halves.
+// How many children have smaller steps, by a binary search.
 fn place(children: &[Arc<Child>], step: &Step) -> usize
     requires { T (is_sorted step_cmp (row_of children.now)) }
     ensures value { result ≡ place step.now (row_of children.now) }
@@ -94,7 +97,7 @@ fn place(children: &[Arc<Child>], step: &Step) -> usize
     low
 }
 
-// Where the children after the step begin; `at` is its place.
+// The index of the first child after the step; `at` is the step's own index.
 fn past(children: &[Arc<Child>], step: &Step, at: usize) -> usize
     requires { at ≡ place step.now (row_of children.now) }
     ensures value { row_of (drop result children.now) ≡ after step.now (row_of children.now) }
@@ -107,7 +110,7 @@ fn past(children: &[Arc<Child>], step: &Step, at: usize) -> usize
     }
 }
 
-// Puts the child at the end, if there is one.
+// Appends the child, if there is one.
 fn push_child(
     alloc: Global,
     into: &mut Vec<Arc<Child>>,
@@ -127,8 +130,8 @@ fn push_child(
     }
 }
 
-// The children with another one at the step, or with none there.
-fn changed(
+/// The children with another one at the step, or with none there.
+pub(crate) fn changed(
     alloc: Global,
     children: &[Arc<Child>],
     step: &Step,
@@ -139,14 +142,14 @@ fn changed(
 {
     let at = place(children, step);
     let next = past(children, step, at);
-    let mut list = Vec::with_capacity(alloc, children.len())?;
+    let mut list = Vec::with_capacity(alloc, children.len() + 1)?;
     copy_children(&mut list, &children[..at])?;
     push_child(alloc, &mut list, step, node)?;
     copy_children(&mut list, &children[next..])?;
     Ok(list)
 }
 
-// The page with another child at the step, or with none there: with up to 65 children, until it is parted.
+// The page with another child at the step, or with none there: with up to 65 children, until it is split.
 fn changed_page(
     alloc: Global,
     page: &Page,
@@ -163,7 +166,7 @@ fn changed_page(
     Ok(Page { newest, children })
 }
 
-/// A bound on stamps that the node's stamp is not above either.
+/// A bound on stamps that also includes the node's stamp.
 pub(crate) fn newest_with(newest: u64, node: &Option<Arc<Node>>) -> u64
     ensures old { newest ≤ result }
     ensures node { IfSome (tree_in node.now) (λ t. t.stamp ≤ result) }
@@ -174,8 +177,8 @@ pub(crate) fn newest_with(newest: u64, node: &Option<Arc<Node>>) -> u64
     }
 }
 
-// The child at the step.
-fn found<'a>(children: &'a [Arc<Child>], step: &Step) -> Option<&'a Arc<Node>>
+/// The child at the step.
+pub(crate) fn found<'a>(children: &'a [Arc<Child>], step: &Step) -> Option<&'a Arc<Node>>
     requires { T (is_sorted step_cmp (row_of children.now)) }
     ensures { tree_at result ≡ find step_cmp step.now (row_of children.now) }
 {
@@ -187,8 +190,8 @@ fn found<'a>(children: &'a [Arc<Child>], step: &Step) -> Option<&'a Arc<Node>>
     }
 }
 
-/// Where children that are too many for one page are parted: behind a full page where the step is the last one, so that
-/// steps in ascending order leave full pages, and else in the middle.
+/// The index at which to split the children of an overfull page: after a full page if the step is the last one, so that
+/// steps in ascending order give full pages, and else in the middle.
 pub(crate) fn parting(children: &[Arc<Child>], step: &Step) -> usize
     ensures low { 32 ≤ result }
     ensures high { result ≤ 64 }
@@ -199,9 +202,9 @@ pub(crate) fn parting(children: &[Arc<Child>], step: &Step) -> usize
     }
 }
 
-// Puts the page at the end, as two where it has 65 children: they are parted at the place given, and both keep the bound on
-// their stamps.
-fn add_pages(
+/// Appends the page, or two pages if it has 65 children: it is split at the given index, and both keep the bound on
+/// their stamps.
+pub(crate) fn add_pages(
     alloc: Global,
     into: &mut Vec<Arc<Page>>,
     page: Page,
@@ -231,7 +234,7 @@ fn add_pages(
     Ok(())
 }
 
-/// Puts the page at the end.
+/// Appends the page.
 pub(crate) fn add_page(alloc: Global, into: &mut Vec<Arc<Page>>, page: Page) -> Result<(), NoMemory>
     requires old { ArePages into.old.items }
     requires some { 1 ≤ length page.children.items }
@@ -338,8 +341,11 @@ pub(crate) fn child_at<'a>(pages: &'a [Arc<Page>], step: &Step) -> Option<&'a Ar
     found(&page.children, step)
 }
 
-// Puts references to the children at the end.
-fn push_children<'a>(into: &mut Vec<&'a Child>, children: &'a [Arc<Child>]) -> Result<(), NoMemory>
+/// Appends references to the children.
+pub(crate) fn push_children<'a>(
+    into: &mut Vec<&'a Child>,
+    children: &'a [Arc<Child>],
+) -> Result<(), NoMemory>
     ensures { OnOk result (seen into.new.items ≡ seen into.old.items ++ row_of children.entry.now) }
 {
     for child in children {
@@ -349,7 +355,7 @@ fn push_children<'a>(into: &mut Vec<&'a Child>, children: &'a [Arc<Child>]) -> R
     Ok(())
 }
 
-/// Puts references to the children of the pages at the end, in order.
+/// Appends references to the children of the pages, in order.
 pub(crate) fn push_pages<'a>(
     into: &mut Vec<&'a Child>,
     pages: &'a [Arc<Page>],
@@ -373,7 +379,7 @@ fn newest(children: &[Arc<Child>]) -> u64
     newest
 }
 
-/// The larger one.
+/// The larger stamp.
 pub(crate) fn larger(one: u64, other: u64) -> u64
     ensures one { one ≤ result }
     ensures other { other ≤ result }
@@ -402,8 +408,8 @@ fn is_among(stamp: u64, stamps: &[u64]) -> bool
     stamps.iter().any(|other| stamp == *other)
 }
 
-// Puts references to those of the children at the end that have one of the stamps.
-fn push_made<'x, 'a>(
+/// Appends references to the children that have one of the stamps.
+pub(crate) fn push_made<'x, 'a>(
     into: &'x mut Vec<&'a Child>,
     children: &'a [Arc<Child>],
     stamps: &[u64],
@@ -420,7 +426,7 @@ fn push_made<'x, 'a>(
     Ok(())
 }
 
-/// Puts references to those children of the pages at the end that have one of the stamps, in order. It looks into no page
+/// Appends references to the children of the pages that have one of the stamps, in order. It skips pages
 /// whose children all have smaller stamps.
 pub(crate) fn push_made_pages<'x, 'a>(
     into: &'x mut Vec<&'a Child>,

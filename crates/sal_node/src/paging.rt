@@ -1,15 +1,16 @@
-//! The children of a node, in pages or in sheets.
+//! The children of a node, alone, in pages or in sheets.
 ghost use Rattle.std.specs.Prelude.{◌≡◌, ◌≤◌, ◌++◌, length, IfOk, OnOk, T};
 ghost use Rattle.sal_types.specs.Order.{step_cmp};
 ghost use Rattle.std.specs.FinMap.{find, is_sorted};
 ghost use Rattle.sal_node.specs.Tree.{change, grove, is_filled};
 ghost use Rattle.std.specs.Prelude.{None};
-ghost use Rattle.sal_node.specs.Shape.{listed, sheeted, paged, ArePages, AreSheets, ArePaged, tree_in, tree_at, seen};
+ghost use Rattle.sal_node.specs.Shape.{row_of, listed, sheeted, paged, ArePages, AreSheets, ArePaged, tree_in, tree_at, seen};
 ghost use Rattle.sal_node.specs.Shape.{AreFrom, made_by};
 
 use crate::node::{Child, Node, Page, Paging, Sheet};
 use crate::pages::{
-    PAGE, changed_pages, child_at, least, push_made_pages, push_pages, share_pages,
+    PAGE, add_pages, changed, changed_pages, child_at, copy_children, found, least, page_of,
+    parting, push_children, push_made, push_made_pages, push_pages, share_pages,
 };
 use crate::sheets::{
     add_sheets, changed_sheets, child_in, push_made_sheets, push_sheets, share_sheets, sheet_of,
@@ -18,6 +19,22 @@ use crate::sheets::{
 use sal_types::{NoMemory, Step};
 use std::alloc::Global;
 use std::sync::Arc;
+
+// The children, in two pages if they are more than 64.
+fn few_of(alloc: Global, children: Vec<Arc<Child>>, parting: usize) -> Result<Paging, NoMemory>
+    requires few { length children.items ≤ 65 }
+    requires low { 32 ≤ parting }
+    requires high { parting ≤ 64 }
+    ensures list { IfOk result (λ k. paged k ≡ row_of children.items) }
+    ensures pages { IfOk result (λ k. ArePaged k) }
+{
+    if children.len() <= PAGE {
+        return Ok(Paging::Few(children));
+    }
+    let mut pages = Vec::with_capacity(alloc, 2)?;
+    add_pages(alloc, &mut pages, page_of(children), parting)?;
+    Ok(Paging::Pages(pages))
+}
 
 // The pages, in sheets if they are more than 64.
 fn paging_of(alloc: Global, pages: Vec<Arc<Page>>, parting: usize) -> Result<Paging, NoMemory>
@@ -36,7 +53,7 @@ fn paging_of(alloc: Global, pages: Vec<Arc<Page>>, parting: usize) -> Result<Pag
     Ok(Paging::Sheets(sheets))
 }
 
-/// The pages, as they are where there are no sheets, and else as the last sheet.
+/// The pages, directly if there are no sheets, and else as the last sheet.
 pub(crate) fn joined(
     alloc: Global,
     sheets: Vec<Arc<Sheet>>,
@@ -69,6 +86,12 @@ pub(crate) fn changed_paging(
     ensures pages { IfOk result (λ k. ArePaged k) }
 {
     match paging {
+        Paging::Few(children) => {
+            let children = changed(alloc, children, step, node)?;
+            let parting = parting(&children, step);
+            let paging = few_of(alloc, children, parting)?;
+            Ok(paging)
+        }
         Paging::Pages(pages) => {
             let pages = changed_pages(alloc, pages, step, node)?;
             let parting = sheet_parting(&pages, step);
@@ -89,6 +112,11 @@ pub(crate) fn shared_paging(alloc: Global, paging: &Paging) -> Result<Paging, No
     ensures pages { IfOk result (λ k. ArePaged k) }
 {
     match paging {
+        Paging::Few(children) => {
+            let mut list = Vec::with_capacity(alloc, children.len())?;
+            copy_children(&mut list, children)?;
+            Ok(Paging::Few(list))
+        }
         Paging::Pages(pages) => {
             let mut list = Vec::with_capacity(alloc, pages.len())?;
             share_pages(&mut list, pages)?;
@@ -109,6 +137,7 @@ pub(crate) fn child_of<'a>(paging: &'a Paging, step: &Step) -> Option<&'a Arc<No
     ensures { tree_at result ≡ find step_cmp step.now (paged paging.now) }
 {
     match paging {
+        Paging::Few(children) => found(children, step),
         Paging::Pages(pages) => child_at(pages, step),
         Paging::Sheets(sheets) => child_in(sheets, step),
     }
@@ -120,6 +149,7 @@ pub(crate) fn has_children(paging: &Paging) -> bool
     ensures { result ≡ is_filled None (grove (paged paging.now)) }
 {
     match paging {
+        Paging::Few(children) => !children.is_empty(),
         Paging::Pages(pages) => !pages.is_empty(),
         Paging::Sheets(sheets) => !sheets.is_empty(),
     }
@@ -141,6 +171,7 @@ fn push_paging<'a>(into: &mut Vec<&'a Child>, paging: &'a Paging) -> Result<(), 
     ensures { OnOk result (seen into.new.items ≡ seen into.old.items ++ paged paging.entry.now) }
 {
     match paging {
+        Paging::Few(children) => push_children(into, children),
         Paging::Pages(pages) => push_pages(into, pages),
         Paging::Sheets(sheets) => push_sheets(into, sheets),
     }
@@ -171,6 +202,7 @@ fn push_made_paging<'x, 'a>(
     ensures { OnOk result (seen into.new.items ≡ seen into.old.items ++ made_by stamps.now (paged paging.entry.now)) }
 {
     match paging {
+        Paging::Few(children) => push_made(into, children, stamps),
         Paging::Pages(pages) => push_made_pages(into, pages, stamps, least),
         Paging::Sheets(sheets) => push_made_sheets(into, sheets, stamps, least),
     }

@@ -17,7 +17,7 @@ use sal_types::{NoMemory, Step};
 use std::alloc::Global;
 use std::sync::Arc;
 
-/// Puts the sheets at the end, shared.
+/// Appends the sheets, shared.
 pub(crate) fn share_sheets(
     into: &mut Vec<Arc<Sheet>>,
     sheets: &[Arc<Sheet>],
@@ -34,7 +34,7 @@ pub(crate) fn share_sheets(
     Ok(())
 }
 
-// The sheet in which the step stands, or would stand.
+// The index of the sheet for the step: the sheet that has it, or in which it would be inserted.
 fn target_sheet(sheets: &[Arc<Sheet>], step: &Step) -> usize
     requires { 0 < length sheets.now }
     ensures { IsPlaced sheets.now step.now result }
@@ -62,7 +62,7 @@ fn is_sheet_after(pages: &[Arc<Page>], step: &Step) -> bool
     }
 }
 
-/// Where pages that are too many for one sheet are parted: behind a full sheet where the step is the last one, and else
+/// The index at which to split the pages of an overfull sheet: after a full sheet if the step is the last one, and else
 /// in the middle.
 pub(crate) fn sheet_parting(pages: &[Arc<Page>], step: &Step) -> usize
     ensures low { 32 ≤ result }
@@ -74,7 +74,7 @@ pub(crate) fn sheet_parting(pages: &[Arc<Page>], step: &Step) -> usize
     }
 }
 
-/// Puts the sheet at the end, as two where it has 65 pages: they are parted at the place given, and both keep the bound on
+/// Appends the sheet, or two sheets if it has 65 pages: it is split at the given index, and both keep the bound on
 /// their stamps.
 pub(crate) fn add_sheets(
     alloc: Global,
@@ -106,7 +106,7 @@ pub(crate) fn add_sheets(
     Ok(())
 }
 
-/// Puts the sheet at the end.
+/// Appends the sheet.
 pub(crate) fn add_sheet(
     alloc: Global,
     into: &mut Vec<Arc<Sheet>>,
@@ -162,7 +162,7 @@ fn resheeted(
     Ok(list)
 }
 
-// The sheet with another child at the step, or with none there: with up to 65 pages, until it is parted.
+// The sheet with another child at the step, or with none there: with up to 65 pages, until it is split.
 fn changed_sheet(
     alloc: Global,
     sheet: &Sheet,
@@ -234,7 +234,7 @@ pub(crate) fn child_in<'a>(sheets: &'a [Arc<Sheet>], step: &Step) -> Option<&'a 
     child_at(&sheet.pages, step)
 }
 
-/// Puts references to the children of the sheets at the end, in order.
+/// Appends references to the children of the sheets, in order.
 pub(crate) fn push_sheets<'a>(
     into: &mut Vec<&'a Child>,
     sheets: &'a [Arc<Sheet>],
@@ -259,7 +259,7 @@ fn newest_page(pages: &[Arc<Page>]) -> u64
     newest
 }
 
-/// Puts references to those children of the sheets at the end that have one of the stamps, in order.
+/// Appends references to the children of the sheets that have one of the stamps, in order.
 pub(crate) fn push_made_sheets<'x, 'a>(
     into: &'x mut Vec<&'a Child>,
     sheets: &'a [Arc<Sheet>],

@@ -1,4 +1,4 @@
--- What is kept of the calls on notifications, by number.
+-- The boxes of the calls on notifications, by number.
 use Rattle.std.specs.Prelude.{◌≡◌, ℕ, ◌+◌, ◌-◌, ◌<◌, ◌^◌, true, List, [], ◌∷◌, ◌++◌, Option, Some, None, length, nat_eq, nat_le, slice_get, take, is_some}
 use Rattle.std.specs.BTreeMap.{is_at}
 use Rattle.std.specs.List.{filter, fold, list_any}
@@ -8,7 +8,7 @@ use Rattle.std.specs.Ordering.{nat_cmp}
 use Rattle.sal_note.specs.declared.call.Note.{Note}
 use Rattle.sal_note.specs.Queues.{Asked, Made, made_of, queue, subscribers}
 
--- the subscribers of each notification that has some, and what waits for each client that subscribed
+-- the subscribers of each notification that has any, and the queue of each client that subscribed
 pub record Boxes : Type 0 where
   pub subscribed : List (ℕ × List ℕ)
   pub queues : List (ℕ × List Note)
@@ -16,14 +16,14 @@ pub record Boxes : Type 0 where
 abbrev pub clients_in : List (ℕ × List ℕ) → ℕ → List ℕ
 clients_in subscribed note = unwrap_or (lookup (is_at (nat_cmp note)) subscribed) []
 
--- nothing, where the client never subscribed
+-- none if the client never subscribed
 abbrev pub box_in : List (ℕ × List Note) → ℕ → Option (List Note)
 box_in queues client = lookup (is_at (nat_cmp client)) queues
 
 abbrev pub queue_in : List (ℕ × List Note) → ℕ → List Note
 queue_in queues client = unwrap_or (box_in queues client) []
 
--- the boxes are kept of these calls
+-- the boxes are those of these calls
 pub record IsKept (made : List Made) (b : Boxes) : Type 0 where
   pub subscribed : (note : ℕ) → clients_in b.subscribed note ≡ subscribers made note
   pub queued : (client : ℕ) → queue_in b.queues client ≡ queue made client
@@ -47,7 +47,7 @@ abbrev pub Ascend : List ℕ → Type 0
 Ascend [] = Unit {0}
 Ascend (c ∷ cs) = AreAbove c cs
 
--- as many as 32 bits can count
+-- at most as many as 32 bits can count
 pub record AreClients (cs : List ℕ) : Type 0 where
   pub ascend : Ascend cs
   pub few : length cs < 2 ^ 32

@@ -18,7 +18,7 @@ rows n = record { path = Node n ∷ []; cell = Mark } ∷ []
 abbrev pub note : ℕ → ℕ → Note
 note n r = record { note = n; rows = rows r }
 
--- the same call so many times
+-- the same call n times
 abbrev pub times : ℕ → Asked → List Asked
 times zero a = []
 times (suc n) a = a ∷ times n a

@@ -1,4 +1,4 @@
--- Who is subscribed, and what waits for whom, by the calls alone (`DOMNotificationService`, `DOMNotificationPublishService` of the
+-- The subscribers, and the queue of each client, by the calls (`DOMNotificationService`, `DOMNotificationPublishService` of the
 -- MD-SAL developer guide).
 use Rattle.std.specs.Prelude.{ℕ, Bool, true, false, ◌&&◌, List, [], ◌∷◌, ◌++◌, length, Option, Some, None, if◌then◌else◌, nat_eq, nat_le, nat_lt, slice_get}
 use Rattle.std.specs.List.{filter, fold, list_any}
@@ -14,7 +14,7 @@ pub record Asked : Type 0 where
   pub client : ℕ
   pub call : NoteCall
 
--- a call with its answer, and the clients that were subscribed to the notification that it offered
+-- a call with its reply, and the clients that were subscribed to the notification that it offered
 pub record Made : Type 0 where
   pub client : ℕ
   pub call : NoteCall
@@ -23,7 +23,7 @@ pub record Made : Type 0 where
 
 -- ---- subscribers
 
--- the client, where the call subscribes it to the notification
+-- the client, if the call subscribes it to the notification
 abbrev pub subscribes : ℕ → ℕ → NoteCall → List ℕ
 subscribes note client (Subscribe n) = if nat_eq n note then client ∷ [] else []
 subscribes note client call = []
@@ -33,13 +33,13 @@ abbrev pub with_client : ℕ → List ℕ → List ℕ
 with_client c [] = c ∷ []
 with_client c (d ∷ ds) = if nat_lt c d then c ∷ d ∷ ds else (if nat_eq c d then d ∷ ds else d ∷ with_client c ds)
 
--- the clients that are subscribed to the notification, ascending; who subscribes twice counts once
+-- the clients that are subscribed to the notification, ascending; a client that subscribes twice counts once
 abbrev pub subscribers : List Made → ℕ → List ℕ
 subscribers made note = fold (λ cs m. fold (λ ds c. with_client c ds) cs (subscribes note m.client m.call)) [] made
 
 -- ---- queues
 
--- the notification that a call with this answer brought to the client, of those that were subscribed
+-- the notification that a call with this reply brought to the client, of those that were subscribed
 abbrev pub brings : ℕ → NoteCall → NoteReply → List ℕ → List Note
 brings client (Offer note rows) (Offered count) clients = if list_any (nat_eq client) clients then record { note = note; rows = rows } ∷ [] else []
 brings client call reply clients = []
@@ -49,14 +49,14 @@ abbrev pub takes : NoteCall → Bool
 takes TakeNotes = true
 takes call = false
 
--- What waits for the client: the notifications that were offered while it was subscribed, in order, since it took last.
+-- The queue of the client: the notifications that were offered while it was subscribed, in order, since its last take.
 abbrev pub queue : List Made → ℕ → List Note
 queue made client = fold (λ notes m. if takes m.call && nat_eq m.client client then [] else notes ++ brings client m.call m.reply m.subscribed) [] made
 
 abbrev pub is_full : List Made → ℕ → Bool
 is_full made client = nat_le 64 (length (queue made client))
 
--- ---- answers
+-- ---- replies
 
 -- refused by the first of these whose queue is full, if there is one, else given to all
 abbrev pub given_or_refused : List ℕ → Option ℕ → NoteReply
@@ -77,10 +77,10 @@ abbrev pub subscribed_to : List Made → NoteCall → List ℕ
 subscribed_to made (Offer note rows) = subscribers made note
 subscribed_to made call = []
 
--- one call more, answered
+-- one call more, with its reply
 abbrev pub make : List Made → Asked → List Made
 make made a = made ++ record { client = a.client; call = a.call; reply = reply_to made a.client a.call; subscribed = subscribed_to made a.call } ∷ []
 
--- calls, each with its answer
+-- calls, each with its reply
 abbrev pub made_of : List Asked → List Made
 made_of calls = fold make [] calls

@@ -1,4 +1,4 @@
-//! The calls on notifications, and what they are answered.
+//! The calls on notifications, and their replies.
 use sal_rows::Rows;
 use sal_types::{Duplicate, NoMemory, Seq};
 use thiserror::Error;
@@ -10,7 +10,7 @@ pub enum NoteCall {
     Subscribe { note: u32 },
     /// Offers a notification to its subscribers (`DOMNotificationPublishService`).
     Offer { note: u32, rows: Rows },
-    /// Takes all that waits for the client.
+    /// Takes all notifications that wait for the client.
     TakeNotes,
 }
 
@@ -36,7 +36,7 @@ pub type NoteList = Seq<Note>;
 /// Why a call was refused.
 #[derive(Clone, Copy, Debug, PartialEq, Eq, Error)]
 pub enum NoteFault {
-    /// As many notifications wait for this subscriber as may, 64. It is the one with the smallest number of those; nobody gets the
+    /// The most notifications that may wait for this subscriber, 64, do. It is the smallest such subscriber; no client gets the
     /// notification.
     #[error("the queue of subscriber {subscriber} is full")]
     NoteRejected { subscriber: u32 },
@@ -44,14 +44,14 @@ pub enum NoteFault {
     NoMemory,
 }
 
-/// The answer to a call.
+/// The reply to a call.
 #[derive(Drop)]
 pub enum NoteReply {
-    /// The call was done. There is nothing to answer.
+    /// The call was done; there is no other result.
     Accepted,
-    /// So many subscribers have got it.
+    /// The number of subscribers that get it.
     Offered { count: u32 },
-    /// What waited for the client, in order.
+    /// The notifications that waited for the client, in order.
     Notes { list: NoteList },
     /// The call was refused.
     Refused { fault: NoteFault },

@@ -60,7 +60,7 @@ impl Clients {
     }
 }
 
-// The place of the first client that is not below this one.
+// The index of the first client that is not below this one.
 fn first_from(list: &[u32], client: u32) -> usize
     ensures place { result ≡ first_from client list.now }
     ensures within { result ≤ length list.now }

@@ -18,10 +18,10 @@ use std::alloc::Global;
 use std::collections::BTreeMap;
 use std::marker::Model;
 
-/// How many notifications wait for a client at most.
+/// The largest number of notifications that wait for a client.
 pub const MAX_WAITING: usize = 64;
 
-/// Who is subscribed, and what waits for whom. A contract sees the boxes of the calls.
+/// The subscribers, and the queue of each client. A contract sees the boxes of the calls.
 #[derive(Drop)]
 pub struct Notes {
     subscribed: BTreeMap<u32, Clients>,
@@ -37,7 +37,7 @@ impl Model for Notes {
 }
 
 impl Notes {
-    /// Nobody is subscribed. It takes no memory.
+    /// No subscribers. It takes no memory.
     pub fn new(alloc: Global) -> Notes
         ensures { IsOf [] result }
     {
@@ -47,7 +47,7 @@ impl Notes {
         }
     }
 
-    /// Subscribes the client to the notification. Who is subscribed stays so. How many subscribe stays a number of 32 bits: a hub's log
+    /// Subscribes the client to the notification, unless it is subscribed. The number of subscribers must fit 32 bits: a hub's log
     /// has fewer calls than that (`subscribers_are_callers`).
     pub fn subscribe(&mut self, alloc: Global, client: u32, note: u32) -> Result<(), NoteFault>
         requires { HasRoom self.old.subscribed }
@@ -59,8 +59,8 @@ impl Notes {
         }
     }
 
-    /// Gives the notification to all that are subscribed to it, and answers how many they are. It is refused as `NoteRejected` where
-    /// 64 wait for one of them, and then nobody gets it.
+    /// Gives the notification to all its subscribers, and returns their number. Refused as `NoteRejected` if
+    /// 64 notifications wait for one of them, and then no client gets it.
     pub fn offer(
         &mut self,
         alloc: Global,
@@ -81,7 +81,7 @@ impl Notes {
         }
     }
 
-    /// Takes all that waits for the client, in order. It takes no memory.
+    /// Takes all notifications that wait for the client, in order. It takes no memory.
     pub fn take_notes(&mut self, alloc: Global, client: u32) -> NoteList
         ensures { Makes self.old self.new client TakeNotes (Gives result) }
     {
@@ -89,7 +89,7 @@ impl Notes {
     }
 }
 
-// Subscribes the client, which has a queue then. For want of memory all stays as it was.
+// Subscribes the client, which has a queue then. If memory runs out, nothing changes.
 fn subscribe(
     alloc: Global,
     subscribed: &mut BTreeMap<u32, Clients>,
@@ -115,7 +115,7 @@ fn subscribe(
     Err(NoMemory)
 }
 
-// Puts the client among the subscribers of the notification.
+// Adds the client to the subscribers of the notification.
 fn add(
     alloc: Global,
     subscribed: &mut BTreeMap<u32, Clients>,
@@ -146,7 +146,7 @@ fn clients_of(subscribed: &BTreeMap<u32, Clients>, note: u32) -> &[u32]
     }
 }
 
-// The first of the clients for which as many wait as may.
+// The first of the clients whose queue is full.
 fn first_full(queues: &BTreeMap<u32, Queue>, clients: &[u32]) -> Option<u32>
     ensures { result ≡ spec.first_full queues.now.entries clients.now }
 {
@@ -167,7 +167,7 @@ fn waiting(queues: &BTreeMap<u32, Queue>, client: u32) -> usize
     }
 }
 
-// Gives each of the clients the notification. For want of memory nobody has it.
+// Gives each of the clients the notification. If memory runs out, none of them has it.
 fn give_all(queues: &mut BTreeMap<u32, Queue>, clients: &[u32], note: &Note) -> Result<(), NoMemory>
     ensures ok { OnOk result (queues.new.entries ≡ given note.now queues.old.entries clients.now) }
     ensures err { OnErr result (queues.new.entries ≡ queues.old.entries) }
@@ -195,7 +195,7 @@ fn give(queues: &mut BTreeMap<u32, Queue>, client: u32, note: &Note) -> Result<(
     }
 }
 
-// Takes the last notification of each of the clients out of its queue again.
+// Removes the last notification of each of the clients from its queue.
 fn take_back(queues: &mut BTreeMap<u32, Queue>, clients: &[u32])
     ensures { queues.new.entries ≡ taken_back queues.old.entries clients.now }
 {
@@ -214,7 +214,7 @@ fn drop_last(queues: &mut BTreeMap<u32, Queue>, client: u32)
     }
 }
 
-// Takes all that waits for the client.
+// Takes all notifications that wait for the client.
 fn take_all(alloc: Global, queues: &mut BTreeMap<u32, Queue>, client: u32) -> NoteList
     ensures list { result ≡ queue_in queues.old.entries client }
     ensures queues { (c : ℕ) → queue_in queues.new.entries c ≡ (if nat_eq client c then [] else queue_in queues.old.entries c) }

@@ -1,4 +1,4 @@
-//! What waits for a client.
+//! The queue of a client.
 ghost use Rattle.std.specs.Prelude.{◌≡◌, ◌-◌, [], ◌∷◌, ◌++◌, length, take, OnErr, OnOk};
 
 use crate::call::{Note, NoteList};
@@ -23,7 +23,7 @@ impl Model for Queue {
 }
 
 impl Queue {
-    /// Nothing waits. It takes no memory.
+    /// The empty queue. It takes no memory.
     pub(crate) fn new(alloc: Global) -> Queue
         ensures { result ≡ [] }
     {
@@ -32,14 +32,14 @@ impl Queue {
         }
     }
 
-    /// How many wait. It takes no memory.
+    /// The number of notifications. It takes no memory.
     pub(crate) fn waiting(&self) -> usize
         ensures { result ≡ length self.now }
     {
         self.list.len()
     }
 
-    /// Puts the notification at the end.
+    /// Appends the notification.
     pub(crate) fn push(&mut self, note: Note) -> Result<(), NoMemory>
         ensures ok { OnOk result (self.new ≡ self.old ++ note ∷ []) }
         ensures err { OnErr result (self.new ≡ self.old) }
@@ -48,7 +48,7 @@ impl Queue {
         Ok(())
     }
 
-    /// Takes the last one out again. It takes no memory.
+    /// Removes the last one. It takes no memory.
     pub(crate) fn drop_last(&mut self)
         ensures { self.new ≡ take (length self.old - 1) self.old }
     {

@@ -2,8 +2,8 @@
 ghost use Rattle.std.specs.Prelude.{◌≡◌, ◌+◌, ◌-◌, ◌<◌, ◌^◌, if◌then◌else◌, nat_eq};
 ghost use Rattle.sal_order.specs.Differences as spec;
 
-/// How many lines the longest front that the texts have in common has ended; none where they are the same. Cost: one look at each byte of
-/// that front.
+/// The number of whole lines in the longest common prefix of the texts; none if they are equal. Cost: one look at each byte of
+/// that prefix.
 pub fn difference(text: &[u8], other: &[u8]) -> Option<u64>
     ensures { result ≡ spec.difference 0 text.now other.now }
 {
@@ -23,7 +23,7 @@ pub fn difference(text: &[u8], other: &[u8]) -> Option<u64>
     None
 }
 
-// The line behind the byte.
+// The line after the byte.
 fn behind(line: u64, byte: u8) -> u64
     requires { line < 2 ^ 64 - 1 }
     ensures { result ≡ (if nat_eq byte 10 then line + 1 else line) }

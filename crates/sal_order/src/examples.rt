@@ -1,10 +1,10 @@
-//! Worked examples of the definitions. Each function does nothing; its contract says what the definitions give for some texts, and the proof
+//! Worked examples of the definitions. Each function does nothing; its contract states what the definitions give for some texts, and the proof
 //! computes it.
 ghost use Rattle.std.specs.Prelude.{◌≡◌, [], ◌∷◌, ◌++◌, None, Some, codes};
 ghost use Rattle.sal_order.specs.Differences.{difference};
 ghost use Rattle.sal_order.specs.FirstLines.{line_of, told_order};
 
-/// Texts differ on the line behind those that both have whole; the end of a text counts as a difference.
+/// Texts differ in the line after those that both have in common; the end of a text counts as a difference.
 pub fn texts_differ()
     ensures same { difference 0 (codes "a" ++ 10 ∷ codes "b") (codes "a" ++ 10 ∷ codes "b") ≡ None }
     ensures first { difference 0 (codes "a") (codes "b") ≡ Some 0 }
@@ -14,7 +14,7 @@ pub fn texts_differ()
     ensures empty { difference 0 [] (codes "a" ++ 10 ∷ []) ≡ Some 0 }
 {}
 
-/// A first line tells an order that is written just so.
+/// First lines with an order.
 pub fn first_lines_tell()
     ensures two { told_order (codes "order 0 15" ++ 10 ∷ codes "0 0 ok") ≡ Some (0 ∷ 15 ∷ []) }
     ensures none { told_order (codes "order" ++ 10 ∷ codes " 8") ≡ Some [] }
@@ -22,7 +22,7 @@ pub fn first_lines_tell()
     ensures greatest { told_order (codes "order 4294967295" ++ 10 ∷ []) ≡ Some (4294967295 ∷ []) }
 {}
 
-/// Any other first line tells none: one that does not end, or has no word, another word, zeros before a digit, too many spaces, a number of 33 bits or
+/// First lines without one: a line without an end, without `order`, with another word, with leading zeros, too many spaces, a number of 33 bits or
 /// another byte.
 pub fn other_lines_tell_none()
     ensures empty { told_order [] ≡ None }

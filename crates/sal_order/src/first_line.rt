@@ -1,4 +1,4 @@
-//! The order that a text's first line tells: read leniently, then written again and compared.
+//! The order on the first line of a text: parsed leniently, then written again and compared.
 ghost use Rattle.std.specs.Prelude.{◌≡◌, ◌+◌, ◌*◌, ◌-◌, ◌^◌, ◌%◌, ◌++◌, IfOk, OnOk, option_map, string_bytes};
 ghost use Rattle.std.specs.List.{flat_map};
 ghost use Rattle.sal_order.specs.FirstLines as spec;
@@ -6,7 +6,7 @@ ghost use Rattle.sal_order.specs.FirstLines as spec;
 use sal_types::NoMemory;
 use std::alloc::Global;
 
-/// The order on the first line: `order`, and for each call a space and its client's number below 2^32 without leading zeros, ended by LF. None where the
+/// The order on the first line: `order`, and for each call a space and its client's number below 2^32 without leading zeros, ended by LF. None if the
 /// first line has another form. Cost: one look at each byte of the line, which is written once more.
 pub fn first_order(alloc: Global, text: &[u8]) -> Result<Option<Vec<u32>>, NoMemory>
     ensures { IfOk result (λ told. option_map (λ order. order.items) told ≡ spec.told_order text.now) }
@@ -20,7 +20,7 @@ pub fn first_order(alloc: Global, text: &[u8]) -> Result<Option<Vec<u32>>, NoMem
     }
 }
 
-// The numbers that a line has behind its first five bytes, if it is the line of an order.
+// The numbers in a line after its first five bytes, if it is the line of an order.
 fn numbers_of(alloc: Global, text: &[u8]) -> Result<Vec<u32>, NoMemory>
     ensures { IfOk result (λ v. v.items ≡ spec.numbers_in text.now) }
 {
@@ -52,7 +52,7 @@ fn numbers_in(alloc: Global, text: &[u8]) -> Result<Vec<u32>, NoMemory>
     Ok(order)
 }
 
-// A number with one digit more, as far as 32 bits reach.
+// A number with one more digit, modulo 2^32.
 fn with_digit(number: u32, byte: u8) -> u32
     ensures { result ≡ (10 * number + (byte - 48)) % 2 ^ 32 }
 {

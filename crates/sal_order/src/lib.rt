@@ -1,11 +1,11 @@
-//! The order that a report's first line tells, and where two texts differ.
+//! The order on the first line of a report, and where two texts differ.
 //!
 //! | call | what it is |
 //! |---|---|
-//! | `first_order` | the order on a text's first line, or none where the line has another form |
-//! | `difference` | how many whole lines two texts have in common, or none where they are the same |
+//! | `first_order` | the order on a text's first line, or none if the line has another form |
+//! | `difference` | the number of whole lines that two texts have in common, or none if they are equal |
 //!
-//! `laws` says what both mean without reading: which lines tell an order, and that a difference stands behind the longest common front.
+//! `laws` states both without a parser: which lines have an order, and that a difference follows the longest common prefix.
 //!
 //! ```
 //! let order = first_order(alloc, b"order 0 1 0\n0 0 begun 0\n")?;

@@ -19,27 +19,27 @@ picked p i (s ∷ shifts) = (if p i s then i ∷ [] else []) ++ picked p (i + 1)
 abbrev pub numbers_of : Text → List Shift → List ℕ
 numbers_of k shifts = picked (λ i s. same_text s.entity.kind k) 0 shifts
 
--- what is noted of the kind
+-- the recorded numbers of the kind
 abbrev pub numbers_at : List (Text × List ℕ) → Text → List ℕ
 numbers_at numbers k = unwrap_or (lookup (is_at (text_cmp k)) numbers) []
 
--- of each kind just its numbers are noted
+-- each kind has exactly its numbers
 abbrev pub IsNumbered : List Shift → List (Text × List ℕ) → Type 0
 IsNumbered shifts numbers = (k : Text) → numbers_at numbers k ≡ numbers_of k shifts
 
--- the number is one of those that are due
+-- the number is due
 abbrev pub is_due : List (ℕ × Unit {0}) → ℕ → Bool
 is_due due n = is_some (lookup (is_at (nat_cmp n)) due)
 
--- the number is one of a change of the kind, and no less than its start and than `from`
+-- the number is that of a change of the kind, and at least its start and `from`
 abbrev pub has_number : List (Text × List ℕ) → ℕ → ℕ → Text × ℕ → Bool
 has_number numbers from n kind = nat_le kind.1 n && (nat_le from n && list_any (nat_eq n) (numbers_at numbers kind.0))
 
--- it was due, or is one of a change of these kinds
+-- it was due, or is the number of a change of these kinds
 abbrev pub due_by : List (Text × List ℕ) → ℕ → ℕ → List (Text × ℕ) → Bool → Bool
 due_by numbers from n kinds was = fold (λ b kind. b || has_number numbers from n kind) was kinds
 
--- what the client sees of the change with the number, if there is one
+-- how the client sees the change with the number, if there is one
 abbrev pub told_some : ℕ → Option Shift → List OwnerChange
 told_some c None = []
 told_some c (Some s) = told c s ∷ []

@@ -1,4 +1,4 @@
--- Candidates in slots, with gaps where candidates left.
+-- Candidates in slots, with a gap for each candidate that left.
 use Rattle.std.specs.Prelude.{◌≡◌, ℕ, zero, suc, List, [], ◌∷◌, Option, Some, None, if◌then◌else◌, nat_eq, length, take}
 use Rattle.std.specs.BTreeMap.{is_at}
 use Rattle.std.specs.Map.{lookup}
@@ -10,7 +10,7 @@ clients_in [] = []
 clients_in (None ∷ slots) = clients_in slots
 clients_in (Some c ∷ slots) = c ∷ clients_in slots
 
--- who stands in the slot
+-- the client in the slot
 abbrev pub in_slot : List (Option ℕ) → ℕ → Option ℕ
 in_slot [] i = None
 in_slot (s ∷ slots) zero = s
@@ -21,7 +21,7 @@ abbrev pub but : ℕ → Option ℕ → Option ℕ
 but client None = None
 but client (Some c) = if nat_eq c client then None else Some c
 
--- the place of each client is noted, and the first slot without a gap
+-- the slot of each client is recorded, and the first slot that is no gap
 pub record IsPlaced (slots : List (Option ℕ)) (places : List (ℕ × ℕ)) (first : ℕ) : Type 0 where
   pub placed : (c i : ℕ) → lookup (is_at (nat_cmp c)) places ≡ Some i → in_slot slots i ≡ Some c
   pub noted : (c i : ℕ) → in_slot slots i ≡ Some c → lookup (is_at (nat_cmp c)) places ≡ Some i

@@ -33,7 +33,7 @@ impl Numbers {
         Ok(Numbers { list })
     }
 
-    /// Puts the number at the end.
+    /// Appends the number.
     pub(crate) fn add(&mut self, number: usize) -> Result<(), NoMemory>
         ensures ok { OnOk result (self.new ≡ self.old ++ number ∷ []) }
         ensures err { OnErr result (self.new ≡ self.old) }
@@ -50,7 +50,7 @@ impl Numbers {
     }
 }
 
-/// Adds those of the numbers that are no less than `from` to those that are due.
+/// Adds the numbers that are at least `from` to `due`.
 pub(crate) fn add_from(
     due: &mut BTreeMap<usize, ()>,
     numbers: &[usize],

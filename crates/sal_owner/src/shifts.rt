@@ -1,4 +1,4 @@
-//! The changes of owners, as they are kept for all clients.
+//! The changes of owners, kept once for all clients.
 ghost use Rattle.std.specs.Prelude.{◌≡◌, ◌&&◌, ◌||◌, [], ◌∷◌, ◌++◌, ℕ, List, false, drop, length, if◌then◌else◌, nat_le, IfOk, OnErr, OnOk};
 ghost use Rattle.std.specs.BTreeMap.{is_at};
 ghost use Rattle.std.specs.List.{fold};
@@ -38,7 +38,7 @@ impl Model for Shifts {
 }
 
 impl Shifts {
-    /// No change. It takes no memory.
+    /// No changes. It takes no memory.
     pub(crate) fn new(alloc: Global) -> Shifts
         ensures { result ≡ [] }
     {
@@ -55,7 +55,7 @@ impl Shifts {
         self.list.len()
     }
 
-    /// Adds a change, where the two owners differ.
+    /// Adds a change, if the two owners differ.
     pub(crate) fn note(
         &mut self,
         alloc: Global,
@@ -96,7 +96,7 @@ impl Shifts {
         Ok(())
     }
 
-    /// What the client, which watches these kinds, sees of the changes from this number on.
+    /// How the client, which watches these kinds, sees the changes from this number on.
     pub(crate) fn told(
         &self,
         alloc: Global,
@@ -111,7 +111,7 @@ impl Shifts {
     }
 }
 
-// Adds a number to those of the kind.
+// Adds a number to the kind's list.
 fn number(
     alloc: Global,
     numbers: &mut BTreeMap<Str, Numbers>,
@@ -130,7 +130,7 @@ fn number(
     Ok(())
 }
 
-// The numbers from this one on of the changes of these kinds, each from its start on.
+// The numbers from this one on of the changes of these kinds, for each kind from its start on.
 fn due_of(
     alloc: Global,
     numbers: &BTreeMap<Str, Numbers>,
@@ -148,7 +148,7 @@ fn due_of(
     Ok(due)
 }
 
-// Adds the numbers of the changes of the kind that are no less than these two.
+// Adds the numbers of the changes of the kind that are at least both of these.
 fn add_kind(
     due: &mut BTreeMap<usize, ()>,
     numbers: &BTreeMap<Str, Numbers>,
@@ -171,7 +171,7 @@ fn later(a: usize, b: usize) -> usize
     if a < b { b } else { a }
 }
 
-// What the client sees of the changes with these numbers.
+// How the client sees the changes with these numbers.
 fn told_all(
     alloc: Global,
     shifts: &[Shift],
@@ -188,7 +188,7 @@ fn told_all(
     Ok(list)
 }
 
-// Adds what the client sees of the change with this number, if there is one.
+// Adds the change with this number, as the client sees it, if there is one.
 fn add_told(
     list: &mut Vec<OwnerChange>,
     shifts: &[Shift],

@@ -1,4 +1,4 @@
--- What a step leaves in the book that it is played over.
+-- The effect of a step on the book.
 use Rattle.std.specs.Prelude.{◌≡◌, ◌+◌, ⊤, List, Result, Ok, Err, length}
 use Rattle.sal_owner.specs.declared.call.OwnerEntry.{OwnerEntry}
 use Rattle.sal_owner.specs.declared.call.OwnerFault.{OwnerFault}
@@ -9,7 +9,7 @@ use Rattle.sal_owner.specs.Ownership.{make, made_of, reply}
 use Rattle.sal_owner_script.specs.declared.step.OwnerStep.{OwnerStep}
 use Rattle.sal_owner_script.specs.Replies.{entry_of}
 
--- the log has the step's call at its end, and the answer is the one that the log before it gives
+-- the log has the step's call at its end, and the reply is the one by the log before it
 pub record Plays (old new : List OwnerEntry) (step : OwnerStep) (answer : OwnerReply) : Type 0 where
   pub made : made_of new ≡ make (made_of old) (entry_of step)
   pub longer : length new ≡ length old + 1
@@ -20,7 +20,7 @@ abbrev pub PlaysOr : {F : Type 0} → List OwnerEntry → List OwnerEntry → Ow
 PlaysOr old new step (Ok answer) = Plays old new step answer
 PlaysOr old new step (Err fault) = ⊤
 
--- the reply that a refusal is; want of memory is none
+-- the reply of a refusal; `NoMemory` has none
 abbrev pub IsRefusal : OwnerFault → OwnerReply → Type 0
 IsRefusal NoMemory answer = ⊥
 IsRefusal fault answer = answer ≡ Refused fault

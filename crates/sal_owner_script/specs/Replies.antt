@@ -56,7 +56,7 @@ abbrev pub lines_from : ℕ → List OwnerReply → List ℕ
 lines_from i [] = []
 lines_from i (reply ∷ replies) = reply_line i reply ++ lines_from (i + 1) replies
 
--- a step as an entry of a log; what is owned does not depend on an entry's number
+-- a step as an entry of a log; owners do not depend on an entry's number
 abbrev pub entry_of : OwnerStep → OwnerEntry
 entry_of s = record { client = s.client; number = 0; call = s.call }
 
@@ -67,6 +67,6 @@ replies_to steps = map (λ m. m.reply) (made_of (map entry_of steps))
 abbrev pub steps_text : List OwnerStep → List ℕ
 steps_text steps = lines_from 0 (replies_to steps)
 
--- the text of the replies to the steps that the bytes denote, or the first bad place
+-- the text of the replies to the steps that the bytes denote, or the first bad input
 abbrev pub owner_text : List ℕ → Result (List ℕ) (List ℕ)
 owner_text bytes = steps_of bytes >>= (λ steps. Ok (steps_text steps))

@@ -1,4 +1,5 @@
--- Which calls on entities bytes denote: a JSON array (RFC 8259) of steps, each an array of a client, a word, and its texts; or the first bad place.
+-- The calls on entities that bytes denote: a JSON array (RFC 8259) of steps, each an array of a client, a word, and its texts; or the first bad
+-- input.
 use Rattle.std.specs.Prelude.{ℕ, ◌+◌, List, [], ◌∷◌, Option, None, Some, option_and_then, option_map, Result, Ok, codes, decimal, if◌then◌else◌}
 use Rattle.sal_types.specs.Reading.{◌>>=◌}
 use Rattle.serde_json.specs.Data.{Data}
@@ -16,12 +17,12 @@ use Rattle.sal_owner_script.specs.declared.step.OwnerStep.{OwnerStep}
 abbrev pub client_of : Data → Option ℕ
 client_of = whole_below 16
 
--- a kind and an id, and nothing more
+-- exactly a kind and an id
 abbrev pub entity_of : List Data → Option Entity
 entity_of (k ∷ i ∷ []) = option_and_then (λ kind. option_map (λ id. record { kind = kind; id = id }) (as_str i)) (as_str k)
 entity_of parts = None
 
--- a kind, and nothing more
+-- exactly a kind
 abbrev pub kind_of : List Data → Option (List ℕ)
 kind_of (k ∷ []) = as_str k
 kind_of parts = None
@@ -53,7 +54,7 @@ step_of d = option_and_then step_in (list_of d)
 
 -- ---- all of them
 
--- the steps from number i on; a bad place is the number of the step
+-- the steps from number i on; a bad input is the number of the step
 abbrev pub steps_from : ℕ → List Data → Result (List OwnerStep) (List ℕ)
 steps_from i [] = Ok []
 steps_from i (d ∷ ds) = or_bad (decimal i) (step_of d) >>= (λ step. steps_from (i + 1) ds >>= (λ steps. Ok (step ∷ steps)))
@@ -62,6 +63,6 @@ steps_from i (d ∷ ds) = or_bad (decimal i) (step_of d) >>= (λ step. steps_fro
 abbrev pub listed : Data → Result (List Data) (List ℕ)
 listed d = or_bad (codes "script") (option_and_then (at_most 60000) (list_of d))
 
--- the steps that the bytes denote, or the first bad place
+-- the steps that the bytes denote, or the first bad input
 abbrev pub steps_of : List ℕ → Result (List OwnerStep) (List ℕ)
 steps_of bytes = or_bad (codes "json") (data_of bytes) >>= (λ d. listed d >>= steps_from 0)

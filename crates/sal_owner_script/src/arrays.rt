@@ -14,7 +14,7 @@ use std::alloc::Global;
 
 // The items of an array.
 pub(crate) trait Item {
-    // What it is as JSON data.
+    // Its value as JSON data.
     ghost json: { Self → Data };
 
     // Its JSON text.

@@ -1,17 +1,17 @@
-//! The words `owner` of the command: steps of clients that agree on owners of entities, from JSON, and the text of their replies.
+//! `owner` of the command: steps of clients that agree on owners of entities, from JSON, and the text of their replies.
 //!
 //! | type or call | what it is |
 //! |---|---|
 //! | `OwnerStep` | a call of a client: register, unregister, state, watch or changes |
-//! | `read_steps` | the steps that bytes denote, or the first bad place |
+//! | `read_steps` | the steps that bytes denote, or the first bad input |
 //! | `steps_text` | the text of the replies to steps, made in their order over one `OwnerBook` of `sal_owner` |
-//! | `owner_text` | both: from bytes to the text, or the first bad place |
+//! | `owner_text` | both: from bytes to the text, or the first bad input |
 //!
 //! The input is one JSON array of at most 60,000 steps. A step is an array of a client number from 0 to 15, a word, and its texts:
-//! `register`, `unregister` and `state` have a kind and an id, `watch` has a kind, `changes` has nothing more. The first bad place is
-//! `json`, `script`, or the number of the first step of no such form. The output has a line for each step, its number and its reply.
+//! `register`, `unregister` and `state` have a kind and an id, `watch` has a kind, `changes` has none. The first bad input is
+//! `json`, `script`, or the number of the first step of another form. The output has a line for each step, its number and its reply.
 //!
-//! `specs/Steps` says which steps bytes denote, and `specs/Replies` what their text is: the replies that the definitions of
+//! `specs/Steps` defines which steps bytes denote, and `specs/Replies` their text: the replies that the definitions of
 //! `sal_owner` give for these calls in this order. `examples` has worked examples from bytes to bytes, each proved by computing it.
 //! One thread makes all calls. No clause says how a program with several threads orders them; `Owners` of `sal_owner` does.
 //!
@@ -22,8 +22,8 @@
 //! // 2 changes [["sw","s1",false,false,true]]
 //! ```
 //!
-//! Cost: time is linear in the bytes and in the text, beside the calls of `OwnerBook`. Each text of the input is copied into its step and
-//! from there into the book. In addition to the growing output there is one reply at a time. Hostile input is refused by its place,
+//! Cost: time is linear in the bytes and in the text, in addition to the calls of `OwnerBook`. Each text of the input is copied into its step and
+//! from there into the book. In addition to the growing output there is one reply at a time. Hostile input is refused with its place,
 //! and the JSON reader bounds its nesting.
 #![tactic(auto)]
 

@@ -14,7 +14,7 @@ use sal_script::ScriptFault;
 use sal_types::{NoMemory, Str};
 use std::alloc::Global;
 
-/// The text of the replies to the steps that the bytes denote, or the first bad place.
+/// The text of the replies to the steps that the bytes denote, or the first bad input.
 pub fn owner_text(alloc: Global, bytes: &[u8]) -> Result<Str, ScriptFault>
     ensures { Reads (λ text. text) result (spec.owner_text bytes.now) }
 {
@@ -155,7 +155,7 @@ fn changes(alloc: Global, book: &mut OwnerBook, client: u32) -> Result<OwnerRepl
     }
 }
 
-// A refusal is a reply; want of memory is none.
+// A refusal is a reply; `NoMemory` is not.
 fn refused(fault: OwnerFault) -> Result<OwnerReply, NoMemory>
     ensures { IfOk result (IsRefusal fault) }
 {

@@ -12,10 +12,10 @@ use sal_types::{NoMemory, Str};
 use serde_json::Value;
 use std::alloc::Global;
 
-/// How many steps there may be.
+/// The largest number of steps.
 pub const MAX_STEPS: usize = 60000;
 
-/// The steps that bytes denote, or the first bad place: `json`, `script`, or the number of a step.
+/// The steps that bytes denote, or the first bad input: `json`, `script`, or the number of a step.
 pub fn read_steps(alloc: Global, bytes: &[u8]) -> Result<Vec<OwnerStep>, ScriptFault>
     ensures steps { Reads (λ steps. steps.items) result (spec.steps_of bytes.now) }
     ensures few { IfOk result (λ steps. length steps.items ≤ 60000) }
@@ -50,7 +50,7 @@ fn listed(alloc: Global, value: &Value) -> Result<&[Value], ScriptFault>
     }
 }
 
-// The list, where it is no longer than the limit.
+// The list, unless it is longer than the limit.
 fn at_most(limit: usize, list: Option<&[Value]>) -> Option<&[Value]>
     ensures list { option_map (λ found. map view found.now) result ≡ option_and_then (at_most limit) (option_map (λ found. map view found.now) list.entry) }
     ensures few { IfSome result (λ found. length found.now ≤ limit) }
@@ -75,7 +75,7 @@ fn steps_of(alloc: Global, list: &[Value]) -> Result<Vec<OwnerStep>, ScriptFault
     Ok(steps)
 }
 
-// This is the first bad place.
+// The fault with this place.
 fn bad(alloc: Global, place: &str) -> ScriptFault
     ensures { IsBadAt place.now result }
 {
@@ -85,7 +85,7 @@ fn bad(alloc: Global, place: &str) -> ScriptFault
     }
 }
 
-// The step of this number is the first bad place.
+// The fault with the number of this step.
 fn bad_step(alloc: Global, number: usize) -> ScriptFault
     ensures { IsBadAt (decimal number) result }
 {

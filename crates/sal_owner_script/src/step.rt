@@ -9,7 +9,7 @@ use sal_types::{NoMemory, Str};
 use serde_json::Value;
 use std::alloc::Global;
 
-/// How many clients there may be: their numbers are below this.
+/// Client numbers are below this.
 pub const MAX_CLIENTS: u64 = 16;
 
 /// A call of a client.

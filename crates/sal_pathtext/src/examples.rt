@@ -46,7 +46,7 @@ pub fn depth()
     ensures too_deep { read_path example.deep (codes "/m:c" ++ example.names 32) ≡ Err PathTextFault.TooDeep }
 {}
 
-/// Paths as they are written. A call does nothing: its clauses are the laws.
+/// The texts of paths. A call does nothing: its clauses are the laws.
 pub fn texts()
     ensures root { example.writes [] ≡ codes "/" }
     ensures of_another_module { example.writes (example.node "a" ++ Node 8 ∷ []) ≡ codes "/topo:network/node[id='a']/geo:site" }

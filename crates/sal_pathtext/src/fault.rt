@@ -8,14 +8,14 @@ use thiserror::Error;
 /// The first fault of a path text, from the left. `at` is how many bytes are before it.
 #[derive(Clone, Copy, Debug, Error)]
 pub enum PathTextFault {
-    /// The first byte that the form does not allow, or the end of the text where it ends too early.
+    /// The first byte that the form does not allow, or the end of the text if it ends too early.
     #[error("a path cannot have this at byte {at}")]
     BadText { at: usize },
-    /// The first byte of a name that means no node for data there, or is not in the right form.
+    /// The first byte of a name that refers to no data node there, or is not in the right form.
     #[error("unknown node at byte {at}")]
     UnknownNode { at: usize },
     /// The `[` of a predicate that follows a node other than a list or leaf-list, names no key of it or one that an
-    /// earlier predicate has named, or has a value that does not read. Where keys are missing: the first byte of the list's
+    /// earlier predicate has named, or has a value that is not valid. If keys are missing: the first byte of the list's
     /// name.
     #[error("bad predicate at byte {at}")]
     BadPredicate { at: usize },

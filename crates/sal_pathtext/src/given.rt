@@ -1,4 +1,4 @@
-//! What predicates say.
+//! The values in predicates.
 use sal_types::Value;
 
 /// A key leaf or leaf-list, and the value that a predicate gives it.

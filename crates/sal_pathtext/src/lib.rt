@@ -8,16 +8,16 @@
 //! | `laws` | functions that do nothing, each with laws of the two as its contract |
 //!
 //! `/` is the root. Another path is a slash and a name for each node, outermost first. The first name has its module, as
-//! `topo:network`; a later one exactly if its module differs from that of the node above it, as `geo:site`. An
+//! `topo:network`; a later one exactly if its module differs from that of its parent, as `geo:site`. An
 //! entry of a list has its keys after the list's name, as `link[peer='b'][port='7']`, and one of a leaf-list its value, as
-//! `seen[.='12']`. Keys are read in any order and written in theirs. Without keys a list's name is the last one, and means the
-//! whole list. Values are in single or double quotes, and in single quotes `''` denotes one; the text inside is a key text
+//! `seen[.='12']`. Keys are read in any order and written in key order. Without keys a list's name is the last one, and the path is
+//! that of the whole list. Values are in single or double quotes, and in single quotes `''` denotes one; the text inside is a key text
 //! of `sal_json`. Spaces and tabs are allowed inside the brackets around the key, the `=` and the value.
 //!
-//! `specs/` has the words of a text (`Words`), what names mean and which values identify entries (`Nodes`), the path that a
-//! text denotes (`Read`) and the text of a path (`Written`). The reader and the writer give what these definitions give,
-//! unless memory runs out, and what is read fits the schema. A path that was written reads as this path
-//! (`laws::written_paths_read`), and what was read, written and read again is the same path (`laws::read_paths_read_again`).
+//! `specs/` has the tokens of a text (`Words`), the nodes of names and the values that identify entries (`Nodes`), the path that a
+//! text denotes (`Read`) and the text of a path (`Written`). The reader and the writer return what these definitions give,
+//! unless memory runs out, and a path that is read fits the schema. The text of a path reads as this path
+//! (`laws::written_paths_read`), and a path that was read, written and read again is the same path (`laws::read_paths_read_again`).
 //!
 //! ```
 //! let patterns = Patterns::of(alloc, &schema)?;
@@ -25,8 +25,8 @@
 //! let text = write_path(alloc, &schema, &path)?;
 //! ```
 //!
-//! Costs: reading is linear in the text, with a search by halves for each name and what `read_text` costs for each value; for k
-//! predicates of one entry there are k times k comparisons of numbers, and a schema bounds k by the keys of a list. Writing is
+//! Costs: reading is linear in the text, with a binary search for each name and the cost of `read_text` for each value; for k
+//! predicates of one entry there are k times k comparisons of numbers, and the keys of a list bound k. Writing is
 //! linear in the text.
 #![tactic(auto)]
 

@@ -1,4 +1,4 @@
-//! Which node a name means, and which values identify the entries of lists and leaf-lists.
+//! The nodes of names, and which values identify the entries of lists and leaf-lists.
 ghost use Rattle.std.specs.Prelude.{◌≡◌, option_map, find, IfOk};
 ghost use Rattle.std.specs.List.{list_any};
 ghost use Rattle.sal_types.specs.Reading.{GivesUnless};
@@ -13,7 +13,7 @@ use sal_schema::lookups::{is_leaf_list, keys_at, module_at, own_module, type_at}
 use sal_types::{Duplicate, Keys, NoMemory, Seq, Step, Str, Value};
 use std::alloc::Global;
 
-/// The node for data that a name means, below a node or at the top.
+/// The data node of a name, below a node or at the top.
 pub(crate) fn meant(
     schema: &Schema,
     parent: Option<u32>,
@@ -36,7 +36,7 @@ pub(crate) fn meant(
     }
 }
 
-/// What `.` means in a predicate of this node.
+/// The node of `.` in a predicate of this node.
 pub(crate) fn dot_meant(schema: &Schema, node: u32) -> Option<u32>
     ensures { result ≡ spec.dot_meant schema.now node }
 {
@@ -53,7 +53,7 @@ fn is_among(number: u32, numbers: &[u32]) -> bool
     numbers.iter().any(|other| *other == number)
 }
 
-/// The key of this list that a name means.
+/// The key of this list with this name.
 pub(crate) fn key_meant(schema: &Schema, node: u32, module: Option<&str>, name: &str) -> Option<u32>
     ensures { result ≡ spec.key_meant schema.now node (option_map (λ m. m.now) «module».entry, name.now) }
 {
@@ -69,7 +69,7 @@ fn is_given(given: &[Given], leaf: u32) -> bool
     given.iter().any(|one| one.leaf == leaf)
 }
 
-/// The leaf, where no predicate has given it a value before.
+/// The leaf, if no predicate has given it a value before.
 pub(crate) fn not_given(given: &[Given], leaf: Option<u32>) -> Option<u32>
     ensures { result ≡ spec.not_given given.now leaf }
 {
@@ -94,7 +94,7 @@ fn value_given(given: &[Given], leaf: u32) -> Option<&Value>
     }
 }
 
-/// The values that the keys were given, in order, where each was given one.
+/// The values of the keys, in order, if each has one.
 fn values_given(alloc: Global, given: &[Given], keys: &[u32]) -> Result<Option<Keys>, NoMemory>
     ensures { IfOk result (λ values. values ≡ spec.values_given given.now keys.now) }
 {
@@ -108,7 +108,7 @@ fn values_given(alloc: Global, given: &[Given], keys: &[u32]) -> Result<Option<K
     Ok(Some(Seq::from_items(values)))
 }
 
-/// The step to the entry with the values that were given, unless one is missing.
+/// The step to the entry with these values, unless one is missing.
 pub(crate) fn entry_given(
     alloc: Global,
     schema: &Schema,

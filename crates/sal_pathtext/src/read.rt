@@ -14,7 +14,7 @@ use sal_schema::Schema;
 use sal_types::{MAX_STEPS, Path, PathFault, Step};
 use std::alloc::Global;
 
-// Goes one step down, where a path has room for one.
+// Appends a step, if the path has room for one.
 fn add(path: &mut Path, step: Step) -> Result<(), PathTextFault>
     requires room { length path.old < 32 }
     ensures ok { OnOk result (path.new ≡ path.old ++ step ∷ []) }
@@ -81,7 +81,7 @@ pub fn read_path(
     ensures exact { Gives (λ path. path) result (spec.read_path schema.now text.now) }
     ensures fits { IfOk result (λ path. IsTrue (fits_path schema.now path)) }
 {
-    // (for the prover: the clause of `len` has that the table is one of a schema)
+    // (for the prover: the clause of `len` says that the table is one of a schema)
     let _nodes = schema.len();
     let path = read(&Reader::new(alloc, schema, patterns, text))?;
     Ok(path)

@@ -1,4 +1,4 @@
-//! A path text that is read, step by step.
+//! A reader of a path text, step by step.
 ghost use Rattle.std.specs.Prelude.{◌≡◌, ◌≤◌, ◌<◌, [], length, string_bytes, if◌then◌else◌, Err, IfOk};
 ghost use Rattle.sal_types.specs.declared.value.Step.TheVariants.{Node};
 ghost use Rattle.sal_json.specs.Patterns.{patterns_of};
@@ -18,7 +18,7 @@ use sal_schema::lookups::{has_entries, is_list};
 use sal_types::{NoMemory, Step, Value, tail};
 use std::alloc::Global;
 
-/// The whole text, and what its names and values are read by.
+/// The whole text, and the input for reading its names and values.
 #[derive(Drop)]
 pub(crate) struct Reader<'a> {
     pub(crate) alloc: Global,
@@ -68,7 +68,7 @@ impl<'a> Reader<'a> {
         Ok((key_meant(self.schema, node, module, key), after))
     }
 
-    /// The value that a text denotes. Its predicate is at this place.
+    /// The value that a text denotes. `at` is the offset of its predicate.
     fn taken(&self, at: usize, leaf: u32, text: String) -> Result<Value, PathTextFault>
         ensures { Gives (λ value. value) result (spec.taken at (value_there self.now.schema.now leaf (string_bytes text))) }
     {
@@ -149,7 +149,7 @@ impl<'a> Reader<'a> {
         }
     }
 
-    /// A name, after its slash: its node, and the place that the reader has reached.
+    /// A name, after its slash: its node, and the position of the reader.
     #[tactic(auto, unfolding(crate::specs::Read::named))]
     fn named<'s>(&self, here: Here, s: &'s str) -> Result<(u32, Here, &'s str), PathTextFault>
         ensures value { Gives (λ p. (Node p.0, p.1, p.2.now)) result (spec.named self.now.schema.now self.now.text.now here s.now) }
@@ -171,7 +171,7 @@ impl<'a> Reader<'a> {
         Ok((node, next, after))
     }
 
-    /// The node whose entry a predicate is of, at its `[`.
+    /// The node of the entry of a predicate, at its `[`.
     fn owner(&self, here: Here, s: &str) -> Result<u32, PathTextFault>
         ensures { result ≡ (if here.wants_entry then spec.found (PathTextFault.BadPredicate (place_in self.now.text.now s.now)) here.node else Err (PathTextFault.BadPredicate (place_in self.now.text.now s.now))) }
     {
@@ -181,7 +181,7 @@ impl<'a> Reader<'a> {
         }
     }
 
-    /// The step to the entry with the values that were given, unless one is missing.
+    /// The step to the entry with these values, unless one is missing.
     fn entry_of(&self, node: u32, given: Vec<Given>) -> Result<Option<Step>, NoMemory>
         ensures { IfOk result (λ step. step ≡ entry_there self.now.schema.now node given.items) }
     {
@@ -209,7 +209,7 @@ impl<'a> Reader<'a> {
         }
     }
 
-    /// One step, of which the text still has at least a byte.
+    /// One step; the remaining text has at least a byte.
     pub(crate) fn step<'s>(
         &self,
         here: Here,
@@ -230,7 +230,7 @@ impl<'a> Reader<'a> {
         }
     }
 
-    /// The fault of a text that has more after the last step that has room.
+    /// The fault of a text with more steps than a path may have.
     #[tactic(auto, unfolding(crate::specs::Read::one_more))]
     pub(crate) fn one_more(&self, here: Here, s: &str) -> PathTextFault
         ensures { (result ≡ PathTextFault.NoMemory → ⊥) → spec.one_more self.now.schema.now self.now.text.now here s.now ≡ Err result }
@@ -244,7 +244,7 @@ impl<'a> Reader<'a> {
         }
     }
 
-    /// The fault of an entry that has no room: that of its first predicate, if it has one.
+    /// The fault of an entry for which there is no room: that of its first predicate, if it has one.
     fn one_entry_more(&self, here: Here, s: &str) -> PathTextFault
         requires { first_of s.now ≡ 91 }
         ensures { (result ≡ PathTextFault.NoMemory → ⊥) → spec.one_entry_more self.now.schema.now self.now.text.now here s.now ≡ Err result }

@@ -1,4 +1,4 @@
-//! The words of a path text: names, blanks and texts in quotes.
+//! The tokens of a path text: names, blanks and texts in quotes.
 ghost use Rattle.std.specs.Prelude.{◌≡◌, ◌+◌, ◌-◌, ◌<◌, ◌≤◌, length, take, drop, not, ◌==◌, option_map, string_bytes, IfOk};
 ghost use Rattle.std.specs.List.{prefix_len};
 ghost use Rattle.sal_schema.specs.Valid.{starts_identifier as starts, goes_on as goes};
@@ -18,7 +18,7 @@ pub(crate) fn first(s: &str) -> u8
     if bytes.is_empty() { 0 } else { bytes[0] }
 }
 
-/// How many bytes of the whole text are before what is still to read.
+/// The byte offset of the remaining text.
 pub(crate) fn place(whole: &str, s: &str) -> usize
     ensures { result ≡ spec.place whole.now s.now }
 {
@@ -86,7 +86,7 @@ fn word_len(bytes: &[u8]) -> usize
     bytes.iter().take_while(|c| goes_on(**c)).count()
 }
 
-/// The longest run of bytes that an identifier can have after its first, and what follows it.
+/// The longest run of bytes that an identifier can have after its first, and the rest of the text.
 fn split_word(s: &str) -> (&str, &str)
     ensures word { result.0.now ≡ take (spec.word_len s.now) s.now }
     ensures rest { result.1.now ≡ drop (spec.word_len s.now) s.now }
@@ -105,7 +105,7 @@ fn identifier<'s>(whole: &str, s: &'s str) -> Result<(&'s str, &'s str), PathTex
     Ok(split_word(s))
 }
 
-/// A name: its module, if the text has it, the identifier, and what follows.
+/// A name: its module, if the text has it, the identifier, and the rest of the text.
 #[tactic(auto, unfolding(crate::specs::Words::name))]
 pub(crate) fn name<'s>(
     whole: &str,
@@ -130,7 +130,7 @@ pub(crate) fn place_of(byte: u8, bytes: &[u8]) -> usize
     bytes.iter().take_while(|c| **c != byte).count()
 }
 
-/// The text before the closing single quote, where two such quotes denote one.
+/// The text before the closing single quote; two such quotes denote one.
 fn single<'s>(alloc: Global, whole: &str, s: &'s str) -> Result<(String, &'s str), PathTextFault>
     ensures value { Gives (λ p. (string_bytes p.0, p.1.now)) result (spec.single whole.now s.now) }
     ensures within { IfOk result (λ p. length p.1.now ≤ length s.now) }
@@ -180,7 +180,7 @@ fn quoted<'s>(alloc: Global, whole: &str, s: &'s str) -> Result<(String, &'s str
     Err(bad_text(whole, s))
 }
 
-/// What a predicate says of a key: `=` and a text in quotes, with blanks around the `=`.
+/// The value of a predicate's key: `=` and a text in quotes, with blanks around the `=`.
 #[tactic(auto, unfolding(crate::specs::Words::said))]
 pub(crate) fn said<'s>(
     alloc: Global,

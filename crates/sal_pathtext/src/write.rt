@@ -63,7 +63,7 @@ fn push_name(
     }
 }
 
-/// Appends what a predicate says of the value, and its end.
+/// Appends a value in a predicate, and the predicate's end.
 fn push_value(
     alloc: Global,
     out: &mut String,
@@ -153,7 +153,7 @@ fn push_step(
     }
 }
 
-/// The node below which the next step is.
+/// The parent of the next step.
 fn behind(here: Option<u32>, step: &Step) -> Option<u32>
     ensures { result ≡ spec.behind here step.now }
 {

@@ -13,7 +13,7 @@ use Rattle.sal_shapes.specs.declared.scene.Made.{Made}
 abbrev pub commit_at : ℕ → ℕ → Made
 commit_at domain number = record { domain = domain; number = number }
 
--- the commit of this number, if its receipt is that of the submission at the index, from 0 on: one more
+-- the commit of this number, if its receipt is that of the submission at the index, counted from 0: one more than the index
 abbrev pub here : ℕ → ℕ → ℕ → ℕ → Option Made
 here domain number receipt i = if nat_eq receipt (i + 1) then Some (commit_at domain number) else None
 
@@ -38,7 +38,7 @@ made_at known i = made_among 0 (receipts_of known) i
 
 -- ---- for the code
 
--- the receipts of a domain's commits, as the code has it
+-- the receipts of a domain's commits, in the code's form
 abbrev pub receipts_in : Domain → List ℕ
 receipts_in d = commit_receipts_of d.commits.items
 

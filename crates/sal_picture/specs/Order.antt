@@ -1,4 +1,4 @@
--- The order that the first line of a report tells: the numbers in it. Whatever is no digit divides them.
+-- The order on the first line of a report: its numbers, divided by any bytes that are no digits.
 use Rattle.std.specs.Prelude.{ℕ, ◌+◌, ◌-◌, ◌*◌, List, [], ◌∷◌, ◌++◌, Option, None, Some, if◌then◌else◌, min, nat_eq, unwrap_or}
 use Rattle.std.specs.Char.{is_ascii_digit}
 use Rattle.std.specs.List.{before_first, fold}
@@ -10,7 +10,7 @@ pub record Reading : Type 0 where
   pub done : List ℕ
   pub word : Option ℕ
 
--- one digit more; no client has the greatest number
+-- one more digit; no client has the greatest number
 abbrev pub with_digit : ℕ → ℕ → ℕ
 with_digit n digit = min 4294967295 (10 * n + digit)
 

@@ -20,12 +20,12 @@ use Rattle.sal_draw_script.specs.Rows.{all_beads, scene_of}
 use Rattle.sal_picture.specs.Made.{made_at}
 use Rattle.sal_picture.specs.Order.{first_line, order_of}
 
--- ---- what is drawn of what clients did
+-- ---- the scene of the clients' steps
 
 abbrev pub known : List Domain → Played → HubHistory
 known world played = record { world = world; log = played.log }
 
--- what is drawn of these clients' steps
+-- the scene of these clients' steps
 abbrev pub scene_in : Range → List (List Move) → List Domain → Played → Scene
 scene_in range clients world played =
     scene_of (tables_of world) (made_at (known world played)) range (told_domains world played.log) (all_beads clients played.replies) played.log
@@ -42,18 +42,18 @@ play_text range clients world (Err index) = Err (BadOrder index)
 abbrev pub drawn_over : Range → List (List Move) → List Domain → List ℕ → Result (List ℕ) Status
 drawn_over range clients world order = play_text range clients world (play world clients order)
 
--- ---- what is drawn of an input
+-- ---- the picture of an input
 
--- the order that a report tells, or else the script's own
+-- the order of a report, or else the script's own
 abbrev pub order_for : List ℕ → Option (List ℕ) → List ℕ
 order_for own None = own
 order_for own (Some report) = order_of (first_line report)
 
--- A script is drawn in its own order, or in that of a report. What is wrong with the script counts first.
+-- A script is drawn in its own order, or in that of a report. A fault of the script is returned first.
 abbrev pub drawn : Range → List ℕ → Option (List ℕ) → Result (List ℕ) Status
 drawn range bytes report = prepared bytes >>= (λ script. drawn_over range script.parts.clients script.world (order_for script.parts.order report))
 
--- one with its report stands before a zero byte, and the report behind that
+-- of a script and a report with a zero byte between
 abbrev pub drawn_parts : Range → Parted → Result (List ℕ) Status
 drawn_parts range both = drawn range both.first (Some both.second)
 

@@ -14,10 +14,10 @@ use std::alloc::Global;
 
 type Table = Vec<Option<Made>>;
 
-/// How many submissions a table has at most; with more, memory is wanting.
+/// The largest number of submissions of a table; with more, the result is `NoMemory`.
 const MAX_RECEIPTS: usize = 4611686018427387904;
 
-// The table reaches to the index.
+// Extends the table to the index.
 fn reach(table: &mut Table, index: usize) -> Result<(), NoMemory>
     requires { index < 2 ^ 62 }
     ensures long { OnOk result (index < length table.new.items) }
@@ -30,7 +30,7 @@ fn reach(table: &mut Table, index: usize) -> Result<(), NoMemory>
     Ok(())
 }
 
-// The commit, unless there is one with the same receipt.
+// Sets the commit, unless the receipt has one.
 fn put(table: &mut Table, index: usize, made: Made)
     requires { index < length table.old.items }
     ensures { (i : ℕ) → made_in table.new.items i ≡ option_or (made_in table.old.items i) (if nat_eq index i then Some made else None) }
@@ -55,7 +55,7 @@ fn add_commit(table: &mut Table, receipt: u64, made: Made) -> Result<(), NoMemor
     Ok(())
 }
 
-// The receipt of the opening, from which those of the commits count on.
+// The receipt of the opening, from which those of the commits are counted.
 fn first_receipt(commits: &[Commit]) -> u64
     ensures { result ≡ first_receipt commits.now }
 {

@@ -1,4 +1,4 @@
-//! The order that the first line of a report tells.
+//! The order on the first line of a report.
 ghost use Rattle.std.specs.Prelude.{◌≡◌, IfOk, OnOk};
 ghost use Rattle.std.specs.List.{fold};
 ghost use Rattle.sal_draw.specs.Acts.{option_list};
@@ -70,7 +70,7 @@ fn first_line(text: &[u8]) -> &[u8]
     text
 }
 
-/// The order that the report's first line tells.
+/// The order on the report's first line.
 pub(crate) fn order_in(alloc: Global, report: &[u8]) -> Result<Vec<u32>, NoMemory>
     ensures { IfOk result (λ order. order.items ≡ spec.order_of (spec.first_line report.now)) }
 {

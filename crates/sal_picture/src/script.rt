@@ -1,4 +1,4 @@
-//! The picture of a script: played in its own order, or in that which a report tells.
+//! The picture of a script: played in its own order, or in that of a report.
 ghost use Rattle.std.specs.Prelude.{◌≡◌, ◌≤◌, [], Ok, IfOk, OnOk, length, option_map};
 ghost use Rattle.sal_script.specs.Moves.{clients_of};
 ghost use Rattle.sal_script.specs.Play.{play as play_spec};
@@ -6,8 +6,6 @@ ghost use Rattle.sal_script.specs.Reading.{parts};
 ghost use Rattle.sal_script.specs.Tables.{tables_of, versions_of};
 ghost use Rattle.sal_prepare.specs.Scripted.{tables_in};
 ghost use Rattle.sal_prepare.specs.Texts.{IsTextOr};
-ghost use Rattle.sal_shapes.specs.Shapes.{picture_of};
-ghost use Rattle.sal_shapes.specs.Svg.{svg_of};
 ghost use Rattle.sal_picture.specs.Pictured as spec;
 
 use crate::made::made_of;
@@ -23,17 +21,14 @@ use sal_prepare::status::Status;
 use sal_report::told_domains;
 use sal_schema::Schema;
 use sal_script::{Program, Script};
-use sal_shapes::{Scene, picture_of, svg_of};
+use sal_shapes::{Scene, scene_text};
 use sal_types::{Bytes, NoMemory, Seq};
 use std::alloc::Global;
 use std::mem;
 use std::sync::Arc;
 
-/// How many rows, lanes or domains a picture has at most; with more, memory is wanting.
-const MAX_PARTS: usize = 4294967295;
-
-/// The picture of the script that the bytes stand for, of the entries in this range. It is played in its own order, or with a report behind a
-/// zero byte in the order that the report's first line tells.
+/// The picture of the script in these bytes, for the entries in this range. It is played in its own order, or, if a zero byte and a report
+/// follow, in the order on the report's first line.
 pub fn draw_text(alloc: Global, bytes: &[u8], range: Range) -> Result<Bytes, Status>
     ensures { IsTextOr (spec.draw_text range bytes.now) result }
 {
@@ -43,7 +38,7 @@ pub fn draw_text(alloc: Global, bytes: &[u8], range: Range) -> Result<Bytes, Sta
     }
 }
 
-// The same by its parts.
+// The same from its parts.
 fn draw_script(
     alloc: Global,
     bytes: &[u8],
@@ -78,7 +73,7 @@ fn draw_over(
     }
 }
 
-// The script's order is that of the report, if there is one.
+// Replaces the script's order by that of the report, if there is one.
 fn reorder(alloc: Global, script: &mut Script, report: Option<&[u8]>) -> Result<(), NoMemory>
     ensures { OnOk result (script.new ≡ record script.old { order = spec.order_for script.old.order (option_map (λ r. r.now) report.entry) }) }
 {
@@ -89,7 +84,7 @@ fn reorder(alloc: Global, script: &mut Script, report: Option<&[u8]>) -> Result<
     Ok(())
 }
 
-// The picture of what was played. That is not let go: the process ends next, and gives back all at once.
+// The picture of a play. The play is not dropped: the process ends next, and frees all at once.
 fn draw_played(
     alloc: Global,
     read: &ReadScript,
@@ -126,7 +121,7 @@ fn played_text(
     scene_text(alloc, scene)
 }
 
-// What is drawn of what was played.
+// The scene of a play.
 fn scene_in(
     alloc: Global,
     schemas: &[Arc<Schema>],
@@ -150,17 +145,4 @@ fn scene_in(
         log: played.hub.log(),
     };
     scene_of(alloc, ground, Seq::from_items(domains), range, play)
-}
-
-// The text of a scene.
-fn scene_text(alloc: Global, scene: Scene) -> Result<Bytes, NoMemory>
-    ensures { IfOk result (λ text. text ≡ svg_of (picture_of scene)) }
-{
-    let few = scene.lanes.items().len() < MAX_PARTS && scene.domains.items().len() < MAX_PARTS;
-    if !few || scene.rows.items().len() >= MAX_PARTS {
-        return Err(NoMemory);
-    }
-    let picture = picture_of(alloc, scene)?;
-    let text = svg_of(alloc, &picture)?;
-    Ok(Seq::from_items(text))
 }

@@ -22,7 +22,7 @@ pub record AreChains (tables : List (List SchemaTable)) : Type 0 where
   pub each : (n : ℕ) → n < length tables → IsChained (versions_in tables n)
   pub only : (n : ℕ) → later_among (versions_in tables (suc n)) ≡ []
 
--- What the data of these domains read as, over these versions, is sound.
+-- The domains that these data are read to, over these versions, are sound.
 abbrev pub OpenSound : List DeviceParts → List (List SchemaTable) → Type 0
 OpenSound domains tables = (rules : Rules) (world : List Domain) → each_from (opening_by rules tables) 0 domains ≡ Ok world → AreSound world
 

@@ -14,7 +14,7 @@ use Rattle.sal_prepare.specs.Scripted.{if_formed, own_versions, pattern_text}
 abbrev pub last_formed : List SchemaTable → Result SchemaTable Status
 last_formed versions = if_formed 0 versions >>= (λ formed. Ok (last_among formed))
 
--- the table of the last version of domain 0's schema, or the status of the first that is wrong with its versions
+-- the table of the last version of domain 0's schema, or the status of the first fault of its versions
 abbrev pub own_table : Parts → Result SchemaTable Status
 own_table parts = own_versions parts >>= (λ own. last_formed (tables_of own))
 

@@ -1,5 +1,5 @@
--- From the bytes of a script to the world that it is played over, or the status of the first that is wrong: the script, the versions of domain 0's
--- schema, the modules of its devices in their order, their patterns, the data of their opening trees, whether these are refused. Domain 0, the
+-- From the bytes of a script to its world, or the status of the first fault: of the script, the versions of domain 0's
+-- schema, the modules of its devices in their order, their patterns, the data of their opening trees, refused openings. Domain 0, the
 -- controller's own, comes before the devices.
 use Rattle.std.specs.Prelude.{◌≡◌, ℕ, zero, suc, ◌+◌, List, [], ◌∷◌, ◌++◌, codes, decimal, if◌then◌else◌, MatchResult, Option, None, Some, Result, Ok, Err}
 use Rattle.std.specs.List.{list_any}
@@ -46,7 +46,7 @@ domains_of parts = record { modules = parts.modules; config = parts.config; oper
 
 -- ---- their schemas
 
--- what a domain's modules build
+-- the schema of a domain's modules
 abbrev pub or_schema : {A : Type 0} → ℕ → Result A (List ℕ) → Result A Status
 or_schema n (Ok made) = Ok made
 or_schema n (Err text) = Err (BadSchema n text)
@@ -63,7 +63,7 @@ abbrev pub all_versions : Parts → Result (List (List SchemaTable)) Status
 all_versions parts =
     own_versions parts >>= (λ own. each_from table_by 1 parts.devices >>= (λ devices. Ok (versions_by (tables_of own) devices)))
 
--- the text of a malformed pattern, which names the upgrade that leads to its version
+-- the text of a malformed pattern, which names the upgrade to its version
 abbrev pub pattern_text : ℕ → List ℕ
 pattern_text zero = codes "pattern"
 pattern_text (suc v) = schemas.upgrade_text (suc v) (codes "pattern")
@@ -85,7 +85,7 @@ or_unformed n versions (Some v) = unformed n v
 abbrev pub if_formed : ℕ → List SchemaTable → Result (List SchemaTable) Status
 if_formed n versions = or_unformed n versions (malformed_from 0 versions)
 
--- the same versions; all are built before the patterns of the first are looked at
+-- the same versions; all are built before the patterns of the first are checked
 abbrev pub reader_versions : Parts → Result (List (List SchemaTable)) Status
 reader_versions parts = all_versions parts >>= each_from if_formed 0
 
@@ -130,7 +130,7 @@ refused_text table (NotConfig n path) = Some (decimal n ++ (codes " config not-c
 refused_text table (Broken n s breach) = Some (decimal n ++ (32 ∷ (store_text s ++ (codes " breach" ++ breach_text table breach.path breach.rule))))
 refused_text table NoHub = None
 
--- its status; there is no text of want of memory
+-- its status; `NoMemory` has no text
 abbrev pub refused_as : Option (List ℕ) → Status
 refused_as (Some text) = BadOpening text
 refused_as None = NoMemory
@@ -149,7 +149,7 @@ world_over rules domains tables = each_from (opening_by rules tables) 0 domains 
 
 -- ---- the script and its world
 
--- a script, and the world that it is played over
+-- a script, and its world
 pub record Prepared : Type 0 where
   pub parts : Parts
   pub world : List Domain
@@ -158,21 +158,21 @@ pub record Prepared : Type 0 where
 abbrev pub over_world : Parts → List (List SchemaTable) → Result Prepared Status
 over_world parts tables = world_over parts.rules (domains_of parts) tables >>= (λ world. Ok (record { parts = parts; world = world }))
 
--- What a script is played over, or the status of the first that is wrong after its reading.
+-- The prepared script, or the status of the first fault after its reading.
 abbrev pub prepared_of : Parts → Result Prepared Status
 prepared_of parts = reader_versions parts >>= over_world parts
 
--- What the bytes denote, or the status of the first that is wrong with them.
+-- The script of the bytes, prepared, or the status of their first fault.
 abbrev pub prepared : List ℕ → Result Prepared Status
 prepared bytes = or_script (script_of bytes) >>= prepared_of
 
--- ---- what a function returned
+-- ---- results of functions
 
--- a script as it is prepared by the code
+-- a prepared script in the code's form
 abbrev pub seen : CodePrepared → Prepared
 seen it = record { parts = parts it.read.script; world = it.hub.world }
 
--- the status is the one that is made; nothing is said of want of memory
+-- the status is that of the definition; `NoMemory` has no condition
 abbrev pub IsStatusOf : {A : Type 0} → Result A Status → Status → Type 0
 IsStatusOf made NoMemory = Unit {0}
 IsStatusOf made (BadScript place) = made ≡ Err (BadScript place)
@@ -180,19 +180,19 @@ IsStatusOf made (BadSchema n text) = made ≡ Err (BadSchema n text)
 IsStatusOf made (BadOpening text) = made ≡ Err (BadOpening text)
 IsStatusOf made status = ⊥
 
--- what was returned, as it is seen, is what is made; nothing is said of want of memory
+-- the result, seen by `seen`, is that of the definition; `NoMemory` has no condition
 abbrev pub Comes : {A X : Type 0} → (X → A) → Result A Status → Result X Status → Type 0
 Comes seen made result = MatchResult result (λ x. made ≡ Ok (seen x)) (IsStatusOf made)
 
--- a domain of a script, as the code has it
+-- a domain of a script in the code's form
 abbrev pub given : ScriptDomain → DeviceParts
 given domain = record { modules = domain.modules.now; config = view domain.config.now; operational = view domain.operational.now }
 
--- the versions of the schemas of all domains, as the code has them
+-- the versions of the schemas of all domains in the code's form
 abbrev pub versions_shared : Schemas → List (List SchemaTable)
 versions_shared schemas = versions_by (tables_in schemas.own.items) (tables_in schemas.devices.items)
 
--- one more after what was made before
+-- one more after the earlier ones
 abbrev pub with_next : {A : Type 0} → List A → Result A Status → Result (List A) Status
 with_next done next = next >>= (λ x. Ok (done ++ x ∷ []))
 

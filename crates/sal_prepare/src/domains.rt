@@ -1,4 +1,4 @@
-//! The domains of a script: the controller's own and its devices, with their schemas and what reads by them.
+//! The domains of a script: the controller's own and its devices, with their schemas and readers.
 ghost use Rattle.std.specs.Prelude.{◌≡◌, ◌+◌, ◌<◌, ◌≤◌, ◌++◌, ◌∷◌, [], IfOk, IsTrue, Some, length, map, slice_get};
 ghost use Rattle.sal_script.specs.Limits.{are_short};
 ghost use Rattle.sal_script.specs.Reading.{parts};
@@ -21,7 +21,7 @@ use serde_json::Value;
 use std::alloc::Global;
 use std::sync::Arc;
 
-/// A domain as a script has it.
+/// A domain of a script.
 #[derive(Clone, Copy)]
 pub(crate) struct ScriptDomain<'a> {
     pub(crate) modules: &'a [Str],
@@ -29,7 +29,7 @@ pub(crate) struct ScriptDomain<'a> {
     pub(crate) operational: &'a Value,
 }
 
-/// How many domains there are.
+/// The number of domains.
 pub(crate) fn domain_count(script: &Script) -> u32
     ensures count { result ≡ length (spec.domains_of (parts script.now)) }
     ensures few { result ≤ 64 }
@@ -84,7 +84,7 @@ pub(crate) fn own_versions(alloc: Global, script: &Script) -> Result<Versions, S
     }
 }
 
-/// The schemas of all domains, to be shared by what reads and what is read: all versions of that of domain 0, version 0 first, and those of
+/// The schemas of all domains, to be shared by readers and writers: all versions of that of domain 0, version 0 first, and those of
 /// the devices.
 #[derive(Drop)]
 pub(crate) struct Schemas {
@@ -118,7 +118,7 @@ fn device_schemas(alloc: Global, script: &Script) -> Result<Vec<Arc<Schema>>, St
     Ok(schemas)
 }
 
-// One schema more, of the domain of this number.
+// One more schema, of the domain of this number.
 fn add_schema(
     alloc: Global,
     schemas: &mut Vec<Arc<Schema>>,
@@ -135,7 +135,7 @@ fn add_schema(
     Ok(())
 }
 
-/// What reads the paths and the data of each domain, where the patterns of all schemas are well formed.
+/// The readers of the paths and the data of each domain, if the patterns of all schemas are well formed.
 pub(crate) fn readers_of(alloc: Global, schemas: &Schemas) -> Result<Readers, Status>
     requires some { 1 ≤ length schemas.now.own.items }
     requires few { length schemas.now.devices.items ≤ 63 }

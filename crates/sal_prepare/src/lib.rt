@@ -1,12 +1,12 @@
-//! From the bytes of a script to what it is played over, or the status of the first that is wrong with it.
+//! From the bytes of a script to its hub and readers, or the status of the first fault.
 //!
 //! | module | what it has |
 //! |---|---|
-//! | `scripted` | `prepare`: a script's parts with the status of what is wrong, up to the hub that it is played over |
-//! | `domains`, `openings` | the schemas of the controller's own domain and of the devices, with what reads by them; their opening trees |
+//! | `scripted` | `prepare`: a script's parts with the status of its first fault, up to its hub |
+//! | `domains`, `openings` | the schemas of the controller's own domain and of the devices, with their readers; their opening trees |
 //! | `own_schema` | the last version of the schema of domain 0 alone, with its patterns |
-//! | `parted` | an input of two parts, which its first zero byte divides |
-//! | `plays` | the result of a played script: its report, the trees at the end, the status of what failed |
+//! | `parted` | an input of two parts, divided by its first zero byte |
+//! | `plays` | the result of a played script: its report, the trees at the end, the status of a failure |
 //! | `status` | how the command ends |
 //! | `laws` | the worlds of scripts are sound; a load's own script is always a script |
 //!

@@ -36,8 +36,8 @@ pub(crate) struct OpeningTree {
     pub(crate) store: Store,
 }
 
-/// The hub over the opening trees of all domains, unless one of them is no data of its schema, or is refused. There are schemas and readers
-/// of them for each domain.
+/// The hub over the opening trees of all domains, unless one of them is not data of its schema, or is refused. There are schemas and readers
+/// for each domain.
 pub(crate) fn hub_over(
     alloc: Global,
     script: &Script,
@@ -58,7 +58,7 @@ pub(crate) fn hub_over(
     hub_of(alloc, readers, devices, script.rules)
 }
 
-// Does nothing; its contract is that the domains of the script are sound over these versions, as far as their data reads.
+// Does nothing; its contract is that the domains of the script are sound over these versions, if their data are read.
 fn are_sound(script: &Script, schemas: &Schemas)
     requires made { spec.all_versions (parts script.now) ≡ Ok (spec.versions_shared schemas.now) }
     requires own { 1 ≤ length schemas.now.own.items }
@@ -73,7 +73,7 @@ fn are_sound(script: &Script, schemas: &Schemas)
     sal_versions::laws::versions_are_in_order();
 }
 
-// Does nothing; its contract is what the types of the schemas keep.
+// Does nothing; its contract is the invariant of the schemas' types.
 fn have_tables(schemas: &[Arc<Schema>])
     ensures { All IsTable (spec.tables_in schemas.now) }
 {
@@ -82,7 +82,7 @@ fn have_tables(schemas: &[Arc<Schema>])
     }
 }
 
-// Does nothing; its contract is what the type of the schema keeps.
+// Does nothing; its contract is the invariant of the schema's type.
 fn has_table(schema: &Schema)
     ensures { IsTable schema.now }
 {
@@ -123,7 +123,7 @@ fn versions_at(schemas: &Schemas, number: u32) -> &[Arc<Schema>]
     slice::from_ref(&schemas.devices[number as usize - 1])
 }
 
-// One device more, of these versions, whatever the version rules.
+// One more device, of these versions, for any version rules.
 fn add_device(
     alloc: Global,
     devices: &mut Vec<Device>,

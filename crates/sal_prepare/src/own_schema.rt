@@ -57,8 +57,8 @@ fn shared_once(schema: &Arc<Schema>) -> Result<Arc<Schema>, NoMemory>
     Ok(schema)
 }
 
-// The patterns of the last one, where those of each are well formed. An older version has no others, so only where one is malformed
-// each version is looked at.
+// The patterns of the last one, if those of each are well formed. An older version has no others, so only if one is malformed
+// each version is checked.
 fn last_patterns(alloc: Global, versions: &[Arc<Schema>]) -> Result<Patterns, Status>
     requires some { 1 ≤ length versions.now }
     requires order { AreInOrder (tables_in versions.now) }
@@ -72,7 +72,7 @@ fn last_patterns(alloc: Global, versions: &[Arc<Schema>]) -> Result<Patterns, St
     }
 }
 
-// The same; each version is looked at.
+// The same; each version is checked.
 fn each_formed(alloc: Global, versions: &[Arc<Schema>]) -> Result<Patterns, Status>
     requires { 1 ≤ length versions.now }
     ensures formed { Comes (λ _. tables_in versions.now) (if_formed 0 (tables_in versions.now)) result }

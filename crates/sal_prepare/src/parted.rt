@@ -1,4 +1,4 @@
-//! Inputs of two parts, such as a script and what was made of it.
+//! Inputs of two parts, such as a script and its report.
 ghost use Rattle.std.specs.Prelude.{◌≡◌, ◌<◌, IfSome, length, nat_eq, option_map, position};
 ghost use Rattle.sal_prepare.specs.Parted as spec;
 
@@ -9,7 +9,7 @@ pub struct TwoParts<'a> {
     pub second: &'a [u8],
 }
 
-/// The parts before and after the first zero byte of an input; none where no byte is zero.
+/// The parts before and after the first zero byte of an input; none if no byte is zero.
 pub fn two_parts(bytes: &[u8]) -> Option<TwoParts<'_>>
     ensures { option_map (λ p. record { first = p.first.now; second = p.second.now }) result ≡ spec.parted bytes.now }
 {
@@ -22,7 +22,7 @@ pub fn two_parts(bytes: &[u8]) -> Option<TwoParts<'_>>
     }
 }
 
-// The place of the first zero byte.
+// The index of the first zero byte.
 fn zero_at(bytes: &[u8]) -> Option<usize>
     ensures place { result ≡ position (λ b. nat_eq b 0) bytes.now }
     ensures within { IfSome result (λ at. at < length bytes.now) }

@@ -1,4 +1,4 @@
-//! The result of a played script: its report, the trees at the end, or the status of what failed.
+//! The result of a played script: its report, the trees at the end, or the status of a failure.
 ghost use Rattle.std.specs.Prelude.{◌≡◌, ◌<◌, ◌≤◌, All, IfOk, length, map};
 ghost use Rattle.sal_script.specs.Report as spec;
 ghost use Rattle.sal_script.specs.Tables.{tables_of};
@@ -24,7 +24,7 @@ pub fn play_status(fault: PlayFault) -> Status
     }
 }
 
-/// The report of what was played, by the last versions of the schemas of its domains.
+/// The report of a play, by the last versions of the schemas of its domains.
 pub fn report_of(alloc: Global, schemas: &[Arc<Schema>], played: &Played) -> Result<Str, NoMemory>
     requires schemas { tables_in schemas.now ≡ tables_of played.now.hub.world }
     requires few { length schemas.now ≤ 64 }

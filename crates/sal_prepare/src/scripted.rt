@@ -1,4 +1,4 @@
-//! From the bytes of a script to what it is played over: the script, the readers of its domains, and the hub with the opening trees.
+//! From the bytes of a script to the script, the readers of its domains, and the hub with the opening trees.
 ghost use Rattle.std.specs.Prelude.{◌≡◌, ◌≤◌, [], IfOk, length};
 ghost use Rattle.sal_script.specs.Tables.{tables_of, versions_of};
 ghost use Rattle.sal_script.specs.Script.{script_of};
@@ -16,7 +16,7 @@ use sal_script::{Script, ScriptFault, read_script};
 use std::alloc::Global;
 use std::sync::Arc;
 
-/// A script that was read, with the schemas of its domains, each by its last version, and what reads by all versions.
+/// A script that was read, with the schemas of its domains, each of its last version, and the readers of all versions.
 #[derive(Drop)]
 pub struct ReadScript {
     pub script: Script,
@@ -31,8 +31,8 @@ pub struct Prepared {
     pub hub: Hub,
 }
 
-/// Reads the script that the bytes denote and opens the hub that it is played over. The first that is wrong is answered:
-/// with the script, the modules of its domains, their patterns, the data of the opening trees, or their rules.
+/// Reads the script that the bytes denote and opens its hub. The first fault is returned:
+/// of the script, the modules of its domains, their patterns, the data of the opening trees, or their rules.
 pub fn prepare(alloc: Global, bytes: &[u8]) -> Result<Prepared, Status>
     ensures prepared { spec.Comes spec.seen (spec.prepared bytes.now) result }
     ensures schemas { IfOk result (λ it. spec.tables_in it.read.schemas.items ≡ tables_of it.hub.world) }

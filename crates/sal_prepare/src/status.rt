@@ -5,24 +5,24 @@ ghost use Rattle.sal_prepare.specs.Statuses.{line_of, number_of};
 use sal_types::{NoMemory, Str};
 use std::alloc::{AllocFailed, Global};
 
-/// The answer of the command. All but `Done` and `WriteFault` leave the output without a byte.
+/// The status of the command. All but `Done` and `WriteFault` write no byte.
 #[derive(Debug, Drop, PartialEq, Eq)]
 pub enum Status {
-    /// The text was written whole.
+    /// The whole text was written.
     Done,
     /// The words are no form of the command.
     BadWords,
     /// A read of the input failed.
     ReadFault,
-    /// A write of the output failed; what was written is a front of the text.
+    /// A write of the output failed; the written part is a prefix of the text.
     WriteFault,
     /// The input has more than 16,777,216 bytes.
     TooLong,
-    /// The input is no script; the first bad place.
+    /// The input is no script; its first fault.
     BadScript { place: Str },
     /// The modules of this device build no schema; the text of their first fault.
     BadSchema { device: u32, text: Str },
-    /// An opening tree is no data of the schema, or it is refused; the device, the store and the first fault.
+    /// An opening tree is not data of the schema, or is refused; the device, the store and the first fault.
     BadOpening { text: Str },
     /// The order fails at this index.
     BadOrder { index: u64 },
@@ -30,7 +30,7 @@ pub enum Status {
     NoMemory,
     /// The input has no second part: no zero byte divides it.
     NoPart,
-    /// The stream is not followed to its end; the first fault with its place.
+    /// The stream has a fault; the first one with its offset.
     BadStream { text: Str },
     /// The frame of this commit is too long to be exported.
     BadExport { commit: u64 },

@@ -1,16 +1,11 @@
 -- No floating-point number is in what is written for rows.
-use Rattle.std.proofs.Common.{◌≡◌, ℕ, zero, suc, ◌+◌, ℤ, pos, negsuc, Bool, true, false, ◌||◌, List, [], ◌∷◌, ◌++◌, Option, Some, None, Ordering, Less, Equal, Greater, refl}
-use Rattle.std.specs.Prelude.{if◌then◌else◌, fold}
+use Rattle.std.proofs.Common.{◌≡◌, ℕ, zero, suc, ◌+◌, Bool, false, ◌||◌, List, [], ◌∷◌, ◌++◌, Option, Some, None, Ordering, Less, Equal, Greater, refl}
+use Rattle.std.specs.Prelude.{fold}
 use Rattle.std.specs.Cmp.Lexicographic.{slice_cmp}
-use Rattle.std.specs.List.{slice_get}
-use Rattle.std.specs.Option.{option_map_or}
 use Rattle.std.specs.Ordering.{nat_cmp, match_ordering}
-use Rattle.serde_json.specs.Data.{Data, null, number, Members, no_members, member, put}
-use Rattle.serde_json.specs.Find.{of_integer}
+use Rattle.serde_json.specs.Data.{Data, Members, no_members, member, put}
 use Rattle.serde_json.specs.View.{items_of}
 use Rattle.serde_json.specs.Written.{has_float, items_have_float, members_have_float}
-use Rattle.sal_types.specs.declared.value.Atom.{Atom}
-use Rattle.sal_types.specs.declared.value.Atom.TheVariants.{Signed, Unsigned, Dec, Text, Bool as Truth, Enum, Bits, Bin, Ident, Empty}
 use Rattle.sal_types.specs.declared.value.Value.{Value}
 use Rattle.sal_types.specs.declared.value.Cell.{Cell}
 use Rattle.sal_types.specs.declared.value.Cell.TheVariants.{Mark, Leaf}
@@ -18,30 +13,20 @@ use Rattle.sal_types.specs.declared.value.Step.{Step}
 use Rattle.sal_types.specs.declared.value.Step.TheVariants.{Node, Key, Item}
 use Rattle.sal_types.specs.declared.row.Row.{Row}
 use Rattle.sal_types.specs.Tree.{under}
-use Rattle.sal_restrict.specs.declared.yang_type.YangType.{YangType, out-YangType}
-use Rattle.sal_restrict.specs.declared.yang_type.YangType.TheOpen.{YangType-F}
 use Rattle.sal_schema.specs.declared.table.SchemaTable.{SchemaTable}
 use Rattle.sal_schema.specs.Kinds.{is_leaf, is_leaf_list, is_list}
-use Rattle.sal_schema.specs.Table.{is_kind, type_of, module_of}
+use Rattle.sal_schema.specs.Table.{is_kind}
 use Rattle.sal_schema.specs.Paths.{last_step, node_of}
 use Rattle.sal_schema.proofs.Conjuncts.{or_first, or_second}
-use Rattle.sal_json.specs.Written.{is_wide, atom_json, layer_for, type_json_of, json_of}
 use Rattle.sal_data.specs.Members.{member_name}
 use Rattle.sal_data.specs.Written.{runs_of, step_of, scalar_json, leaf_json, Writer, with_member, with_run, members_json, item_json, items_json, entry_json, entries_json, node_json, any_json, json_at, write_data}
 use Rattle.sal_script.specs.BatchData.{leaf_data}
+use Rattle.sal_tree_text.proofs.Floats.{has_float-scalar, if_some, one_of}
 
 -- ---- what is chosen among values without a float
 
 neither : (a b : Bool) → a ≡ false → b ≡ false → (a || b) ≡ false
 neither a b p q = rw (p, q) refl
-
-one_of : (b : Bool) (x y : Data) → has_float x ≡ false → has_float y ≡ false → has_float (if b then x else y) ≡ false
-one_of true x y p q = p
-one_of false x y p q = q
-
-if_some : {A : Type 0} (f : A → Data) (o : Option A) → ((a : A) → has_float (f a) ≡ false) → has_float (option_map_or f o null) ≡ false
-if_some f None whole = refl
-if_some f (Some a) whole = whole a
 
 chosen : (o : Ordering) (a b c : Members) → members_have_float a ≡ false → members_have_float b ≡ false → members_have_float c ≡ false → members_have_float (match_ordering o a b c) ≡ false
 chosen Less a b c p q r = p
@@ -64,41 +49,13 @@ whole_append (x ∷ xs) ys p q =
 
 -- ---- values
 
-whole_integer : (z : ℤ) → has_float (number (of_integer z)) ≡ false
-whole_integer (pos n) = refl
-whole_integer (negsuc n) = refl
-
-whole_atom : (table : SchemaTable) (m : ℕ) (layer : YangType-F YangType) (atom : Atom) → has_float (atom_json table m layer atom) ≡ false
-whole_atom table m layer (Signed z) = one_of (is_wide layer) _ _ refl (whole_integer z)
-whole_atom table m layer (Unsigned n) = one_of (is_wide layer) _ _ refl refl
-whole_atom table m layer (Dec a b) = refl
-whole_atom table m layer (Text a) = refl
-whole_atom table m layer (Truth a) = refl
-whole_atom table m layer (Enum a) = refl
-whole_atom table m layer (Bits a) = refl
-whole_atom table m layer (Bin a) = refl
-whole_atom table m layer (Ident a) = refl
-whole_atom table m layer Empty = refl
-
-whole_of_type : (table : SchemaTable) (m : ℕ) (value : Value) (ty : YangType) → has_float (type_json_of table ty m value) ≡ false
-whole_of_type table m value ty = if_some (λ layer. atom_json table m layer value.atom) (layer_for (out-YangType ty) value.member) (λ layer. whole_atom table m layer value.atom)
-
-whole_json : (table : SchemaTable) (ty m : ℕ) (value : Value) → has_float (json_of table ty m value) ≡ false
-whole_json table ty m value = if_some (λ t. type_json_of table t m value) (slice_get table.types ty) (λ t. whole_of_type table m value t)
-
-whole_scalar : (table : SchemaTable) (value : Value) (n : ℕ) → has_float (scalar_json table n value) ≡ false
-unfolding scalar_json
-whole_scalar table value n =
-    if_some (λ ty. option_map_or (λ m. json_of table ty m value) (module_of table n) null) (type_of table n)
-    (λ ty. if_some (λ m. json_of table ty m value) (module_of table n) (λ m. whole_json table ty m value))
-
 whole_leaf : (table : SchemaTable) (n : ℕ) (rows : List Row) → has_float (leaf_json table n rows) ≡ false
 whole_leaf table n [] = refl
 whole_leaf table n (row ∷ rows) = at row.cell
   where
     at : (cell : Cell) → has_float (leaf_json table n (record row { cell = cell } ∷ rows)) ≡ false
     at Mark = refl
-    at (Leaf value) = whole_scalar table value n
+    at (Leaf value) = has_float-scalar table n value
 
 -- ---- trees
 
@@ -123,7 +80,7 @@ whole_item : (table : SchemaTable) (n : ℕ) (step : Option Step) → items_have
 whole_item table n None = refl
 whole_item table n (Some (Node m)) = refl
 whole_item table n (Some (Key values)) = refl
-whole_item table n (Some (Item value)) = neither (has_float (scalar_json table n value)) false (whole_scalar table value n) refl
+whole_item table n (Some (Item value)) = neither (has_float (scalar_json table n value)) false (has_float-scalar table n value) refl
 
 whole_items : (table : SchemaTable) (n k : ℕ) (runs : List (List Row)) → items_have_float (items_of (items_json table n k runs)) ≡ false
 whole_items table n k [] = refl
@@ -153,7 +110,7 @@ whole_at : (table : SchemaTable) (path : List Step) (step : Option Step) (rows :
 whole_at table path None rows = whole_members table None (any_json table) 0 rows (whole_node 32 table)
 whole_at table path (Some (Node n)) rows = whole_node 32 table n _ rows
 whole_at table path (Some (Key values)) rows = whole_members table (node_of path) (any_json table) _ rows (whole_node 32 table)
-whole_at table path (Some (Item value)) rows = if_some (λ n. scalar_json table n value) (node_of path) (whole_scalar table value)
+whole_at table path (Some (Item value)) rows = if_some (λ n. scalar_json table n value) (node_of path) (λ n. has_float-scalar table n value)
 
 pub has_float-write_data : (table : SchemaTable) (path : List Step) (rows : List Row) → has_float (write_data table path rows) ≡ false
 has_float-write_data table path rows = whole_at table path (last_step path) (under rows path)
@@ -161,6 +118,6 @@ has_float-write_data table path rows = whole_at table path (last_step path) (und
 -- and in none for a leaf
 pub has_float-leaf_data : (table : SchemaTable) (step : Option Step) (value : Value) → has_float (leaf_data table step value) ≡ false
 has_float-leaf_data table None value = refl
-has_float-leaf_data table (Some (Node n)) value = whole_scalar table value n
+has_float-leaf_data table (Some (Node n)) value = has_float-scalar table n value
 has_float-leaf_data table (Some (Key values)) value = refl
 has_float-leaf_data table (Some (Item item)) value = refl

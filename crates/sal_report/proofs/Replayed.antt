@@ -1,36 +1,28 @@
 -- Marks of what was mounted follow the calls, and the calls on mounts of a log are those of its history.
-use Rattle.std.proofs.Common.{◌≡◌, ℕ, zero, suc, ◌+◌, ◌<◌, ◌≤◌, Bool, cond, true, false, ◌||◌, List, [], ◌∷◌, ◌++◌, length, Option, Some, None, refl, ap, sym, ◌∙◌, subst, append-nil, take, arith}
-use Rattle.std.proofs.lemmas.List.Elements.{All-cons, All-filter, All-nil, filter_map-append}
+use Rattle.std.proofs.Common.{◌≡◌, ℕ, zero, suc, ◌+◌, ◌<◌, ◌≤◌, Bool, cond, false, ◌||◌, List, [], ◌∷◌, ◌++◌, length, None, refl, ap, sym, ◌∙◌, subst, take, arith}
+use Rattle.std.proofs.lemmas.List.Elements.{All-cons, All-filter, All-nil}
 use Rattle.std.proofs.lemmas.List.{map-id}
 use Rattle.std.proofs.lemmas.List.FromFn.{filter_of_map_range_with_len_more}
-use Rattle.std.proofs.lemmas.List.Sums.{fold-append, fold_more}
 use Rattle.std.specs.Prelude.{nat_eq, slice_index_or}
-use Rattle.std.specs.List.{All, cons_option, filter, filter_map, fold, list_any, range_with_len}
+use Rattle.std.specs.List.{All, filter, list_any, range_with_len}
 use Rattle.sal_mount.specs.declared.call.MountCall.{MountCall}
-use Rattle.sal_mount.specs.declared.call.MountCall.TheVariants.{Mount, Unmount, MountAt as Asks}
-use Rattle.sal_mount.specs.declared.call.MountFault.{MountFault}
-use Rattle.sal_mount.specs.declared.call.MountFault.TheVariants.{NoDomain, DeviceUsed, MountTaken, NoMemory}
+use Rattle.sal_mount.specs.declared.call.MountCall.TheVariants.{Mount}
 use Rattle.sal_mount.specs.declared.call.MountReply.{MountReply}
-use Rattle.sal_mount.specs.declared.call.MountReply.TheVariants.{Accepted, Refused}
-use Rattle.sal_mount.specs.Answers.{Makes, Refuses}
-use Rattle.sal_mount.specs.Mounts.{Made, Mounted, make, made_of, mounted, mounts, reply_to, was_mounted}
+use Rattle.sal_mount.specs.declared.call.MountReply.TheVariants.{Accepted}
+use Rattle.sal_mount.specs.Answers.{Makes}
+use Rattle.sal_mount.specs.Mounts.{Made, Mounted, made_of, mounted, mounts, was_mounted}
 use Rattle.sal_mount.specs.Register.{IsOf, Register}
 use Rattle.sal_mount.proofs.Made.{mounted-one, mounted-same, was-one}
 use Rattle.sal_history.specs.declared.call.Entry.{Entry}
-use Rattle.sal_history.specs.Answered.{Answered}
 use Rattle.sal_history.specs.History.{answer, history}
+use Rattle.sal_history.specs.MountCalls.{mounts_in, with_call}
 use Rattle.sal_history.specs.Services.{mount_call, mounting}
+use Rattle.sal_history.proofs.MountCalls.{calls-more, made-more, mounting-is}
 use Rattle.sal_history.specs.World.{Domain}
 use Rattle.sal_script.specs.Report.{told_domains}
-use Rattle.sal_report.specs.Replayed.{Follows, mounts_in, with_call}
+use Rattle.sal_report.specs.Replayed.{Follows}
 
 -- ---- one call
-
--- one call more, with its answer
-made-more : (n : ℕ) (calls : List MountCall) (call : MountCall) (reply : MountReply) → reply_to n (made_of n calls) call ≡ reply
-    → made_of n (calls ++ call ∷ []) ≡ made_of n calls ++ record { call = call; reply = reply } ∷ []
-made-more n calls call reply e =
-    fold-append (make n) [] calls (call ∷ []) ∙ ap (λ (r : MountReply). made_of n calls ++ record { call = call; reply = r } ∷ []) e
 
 -- a good mount is of its device, and any other call of none
 was-more : (made : List Made) (path : _) (device d : ℕ) → was_mounted (made ++ record { call = Mount path device; reply = Accepted } ∷ []) d ≡ (was_mounted made d || nat_eq device d)
@@ -71,45 +63,16 @@ module _ {calls : List MountCall} {old new : Register} {marks : List Bool} (was 
         ∙ ap (λ n. was_mounted (made_of n (calls ++ Mount path device ∷ [])) d) (sym makes.devices);
   }
 
--- a call that is refused was made
-pub made_if_refused : (old new : Register) (call : MountCall) (fault : MountFault) → Refuses old new call fault → Makes old new call (Refused fault)
-made_if_refused old new call NoMemory it = absurd it
-made_if_refused old new call (NoDomain id) it = it.made
-made_if_refused old new call (DeviceUsed id) it = it.made
-made_if_refused old new call (MountTaken id) it = it.made
-
 -- ---- a log
 
 -- before the first call nothing is marked
 pub nothing_marked : (r : Register) (marks : List Bool) → IsOf [] r → length marks ≡ r.devices → ((d : ℕ) → d < length marks → slice_index_or marks d false ≡ false) → Follows [] r marks
 nothing_marked r marks register long none = record { register = register; long = long; each = none }
 
-abbrev with_entry : List MountCall → Entry → List MountCall
-with_entry calls x = with_call calls (mount_call x.call)
-
 -- one entry more
 pub one_entry : (log : List Entry) (i : ℕ) (e : Entry) (r : Register) (marks : List Bool) → i < length log → e ≡ slice_index_or log i e
     → Follows (with_call (mounts_in (take i log)) (mount_call e.call)) r marks → Follows (mounts_in (take (i + 1) log)) r marks
-one_entry log i e r marks inside here follows =
-    let more : mounts_in (take (i + 1) log) ≡ with_call (mounts_in (take i log)) (mount_call e.call) =
-    fold_more with_entry [] log i e inside ∙ ap (λ (x : Entry). with_call (mounts_in (take i log)) (mount_call x.call)) (sym here) in
-    subst (λ (calls : List MountCall). Follows calls r marks) (sym more) follows
-
-module _ (world : List Domain) where
-  one_more : (answered : List Answered) (e : Entry) → mounting (answer world answered e) ≡ with_call (mounting answered) (mount_call e.call)
-  one_more answered e =
-      filter_map-append (λ (a : Answered). mount_call a.entry.call) answered _ ∙ with_option (mounting answered) (mount_call e.call)
-    where
-      with_option : (calls : List MountCall) (o : Option MountCall) → calls ++ cons_option o [] ≡ with_call calls o
-      with_option calls None = append-nil calls
-      with_option calls (Some call) = refl
-
-  from : (answered : List Answered) (log : List Entry) → mounting (fold (answer world) answered log) ≡ fold with_entry (mounting answered) log
-  from answered [] = refl
-  from answered (e ∷ log) = from (answer world answered e) log ∙ ap (λ (calls : List MountCall). fold with_entry calls log) (one_more answered e)
-
-  pub mounting-is : (log : List Entry) → mounting (history world log) ≡ mounts_in log
-  mounting-is log = from [] log
+one_entry log i e r marks inside here follows = subst (λ (calls : List MountCall). Follows calls r marks) (sym (calls-more log i e inside here)) follows
 
 -- ---- the numbers of domains
 

@@ -1,4 +1,4 @@
-//! Reports of whoever writes the line of a step when it is answered, and keeps that in place of the reply.
+//! Reports for callers that write the line of a step when it is answered, and keep the line instead of the reply.
 ghost use Rattle.std.specs.Prelude.{◌≡◌, ◌++◌, IfOk, OnOk, map, string_bytes};
 ghost use Rattle.std.specs.List.{flat_map};
 ghost use Rattle.sal_script.specs.Report as spec;
@@ -14,7 +14,7 @@ use sal_types::{NoMemory, Seq, Str};
 use std::alloc::Global;
 use std::sync::Arc;
 
-/// The text of a reply, as its line has it after client and step. It fails only where memory runs out.
+/// The text of a reply, as its line has it after client and step. It fails only if memory runs out.
 pub fn reply_text(
     alloc: Global,
     schemas: &[Arc<Schema>],

@@ -12,7 +12,7 @@ use std::alloc::Global;
 
 // The items of an array.
 pub(crate) trait Item {
-    // What it is as JSON data.
+    // Its value as JSON data.
     ghost json: { SchemaTable → Self → Data };
 
     // Its JSON text.

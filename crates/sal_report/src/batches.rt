@@ -8,16 +8,17 @@ ghost use Rattle.sal_data.specs.Written.{scalar_json};
 ghost use Rattle.sal_script.specs.BatchData as spec;
 
 use crate::arrays::{Item, push_array};
-use crate::pieces::{push_location, push_value};
+use crate::pieces::push_location;
 use crate::words::candidate_word;
 use sal_json::write_scalar;
 use sal_rows::{Change, Part};
 use sal_schema::Schema;
+use sal_tree_text::push_value;
 use sal_types::{Cell, NoMemory, Path, Step, Value, push_word};
 use serde_json::Value as Json;
 use std::alloc::Global;
 
-// What one commit changed.
+// The changes of one commit.
 impl Item for Part {
     ghost json = { spec.part_data };
 

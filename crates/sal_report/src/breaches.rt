@@ -1,4 +1,4 @@
-//! Structural rules that are broken, and paths, in words.
+//! Structural rules that are broken, and paths, as text.
 ghost use Rattle.std.specs.Prelude.{◌≡◌, ◌++◌, IfOk, OnOk, string_bytes};
 ghost use Rattle.sal_script.specs.MessageData.{node_text};
 ghost use Rattle.sal_script.specs.Report as spec;
@@ -9,7 +9,7 @@ use sal_schema::Schema;
 use sal_types::{NoMemory, Path, Str, push_word};
 use std::alloc::Global;
 
-/// A space and a path as a JSON text. It fails only where memory runs out.
+/// A space and a path as a JSON text. It fails only if memory runs out.
 pub fn path_words(alloc: Global, schema: &Schema, path: &Path) -> Result<Str, NoMemory>
     ensures { IfOk result (λ text. text ≡ spec.path_text schema.now path.now) }
 {
@@ -19,7 +19,7 @@ pub fn path_words(alloc: Global, schema: &Schema, path: &Path) -> Result<Str, No
 }
 
 /// A space and where a rule is broken, as a JSON text, and after it which: its word, and the node that states it with its
-/// module, as `max-elements shop:seen`. A number of no node denotes empty names. It fails only where memory runs out.
+/// module, as `max-elements shop:seen`. A number without a node gives empty names. It fails only if memory runs out.
 pub fn breach_text(alloc: Global, schema: &Schema, breach: &Breach) -> Result<Str, NoMemory>
     ensures { IfOk result (λ text. text ≡ spec.breach_text schema.now breach.now.path breach.now.rule) }
 {

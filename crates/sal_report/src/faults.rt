@@ -1,4 +1,4 @@
-//! Faults of path texts, of data and of writes, in words.
+//! Faults of path texts, of data and of writes, as text.
 ghost use Rattle.std.specs.Prelude.{◌≡◌, ◌∷◌, ◌++◌, IfOk, OnOk, string_bytes};
 ghost use Rattle.json.specs.Print.{quoted};
 ghost use Rattle.sal_script.specs.Report as spec;
@@ -13,7 +13,7 @@ use sal_schema::Schema;
 use sal_types::{NoMemory, Path, Str, push_word};
 use std::alloc::Global;
 
-/// Why a value is no data of the schema: a word, the path of the place as a JSON text, and then the name or the fault of
+/// Why a value is not data of the schema: a word, the path of the place as a JSON text, and then the name or the fault of
 /// the value, if there is one. It fails only if memory runs out.
 pub fn data_fault_text(alloc: Global, schema: &Schema, fault: &DataFault) -> Result<Str, NoMemory>
     ensures { IfOk result (λ text. text ≡ spec.data_fault_text schema.now fault.now) }
@@ -110,7 +110,7 @@ fn push_named(
     push_quoted(alloc, text, name.as_str())
 }
 
-// A space and why a value is none of its type.
+// A space and why a value is not of its type.
 fn push_scalar_fault(text: &mut String, fault: ScalarFault) -> Result<(), NoMemory>
     ensures { OnOk result (string_bytes text.new ≡ string_bytes text.old ++ (32 ∷ spec.scalar_text fault)) }
 {

@@ -5,21 +5,21 @@
 //! | `report` | the text for a log, the replies to the clients' steps, and the trees at the end |
 //! | `DomainEnd` | a domain at the end of a run: its number, commits and trees |
 //! | `reply_text` | the text of one reply, as its line has it |
-//! | `report_of_lines` | the text of a run, where the lines of the steps are texts already |
+//! | `report_of_lines` | the text of a run, if the lines of the steps are texts already |
 //! | `tree_line` | the line of a domain with its trees, alone |
 //! | `told_domains` | the domains of which it shows the trees: the controller's own, and each device that was ever mounted |
-//! | `data_fault_text` | why a value is no data of the schema, in words |
-//! | `summary` | the summary of a load: how many calls, commits and rows, and the sum of the numbers |
+//! | `data_fault_text` | why a value is not data of the schema, as text |
+//! | `summary` | the summary of a load: the numbers of calls, commits and rows, and the sum of the numbers |
 //! | `breach_text`, `path_words` | where a structural rule is broken and which; a path |
 //!
-//! What the texts are, to the byte, is in `sal_script` (`specs/Report`, with its words in `specs/Words`): for all schemas, logs,
-//! replies and trees. Paths are written by `sal_pathtext` and rows by `sal_data`, as JSON (RFC 7951). What is of a domain is written
+//! `sal_script` defines the texts, to the byte (`specs/Report`, with its words in `specs/Words`): for all schemas, logs,
+//! replies and trees. Paths are written by `sal_pathtext` and rows by `sal_data`, as JSON (RFC 7951). The paths and data of a domain are written
 //! by the last version of its schema, or by one without nodes if it has none; requests, outputs, notifications, mounts and upgrades are
 //! of domain 0.
 //!
 //! ```
 //! let told = told_domains(alloc, schemas.len() as u32, log)?;
-//! // 0 alone, where no device was mounted; so `trees` has the trees of domain 0
+//! // 0 alone, as no device was mounted; so `trees` has the trees of domain 0
 //! let text = report(alloc, &schemas, log, &[replies], &trees)?;
 //! // order 0 0 0
 //! // 0 0 begun 0
@@ -30,8 +30,8 @@
 //! ```
 //!
 //! Cost: the text grows in place, with the JSON of one reply at a time; trees are written from their nodes, and a load's rows are
-//! counted on them (`sal_tree_text`). Time is linear in the text, beside what `sal_data` takes to write the rows of a reply and `sal_pathtext`
-//! to write the paths. `told_domains` goes once through the log and makes its calls on mounts once more, which takes what `sal_mount` takes for them.
+//! counted on them (`sal_tree_text`). Time is linear in the text, plus that of `sal_data` for the rows of a reply and of `sal_pathtext`
+//! for the paths. `told_domains` goes once through the log and applies its calls on mounts again, at the cost of `sal_mount`.
 #![tactic(auto)]
 
 mod answered;

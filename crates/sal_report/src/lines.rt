@@ -17,8 +17,9 @@ use std::sync::Arc;
 
 /// The report of a run: the line of the order, a line for each reply by client and step, and a line for each domain with its trees.
 ///
-/// `schemas` has those of the domains by number, each by its last version, `log` the calls in order, `replies` for each client its steps' replies in order, and
-/// `trees` those of the domains that the report shows, at the end. What is of a domain without a schema is written by one without nodes.
+/// `schemas` has those of the domains by number, each by its last version, `log` the calls in order, `replies` for each client its steps' replies
+/// in order, and
+/// `trees` those of the domains that the report shows, at the end. The paths and data of a domain without a schema are written by one without nodes.
 /// It fails only if memory runs out.
 pub fn report(
     alloc: Global,
@@ -50,7 +51,7 @@ fn told(
     Ok(Str::from_string(text))
 }
 
-/// The line of a domain with its trees, as a report ends with it. `schemas` has those of the domains by number, each by its last version; a
+/// The line of a domain with its trees, the last line of a report. `schemas` has those of the domains by number, each by its last version; a
 /// domain without one is written by a schema without nodes.
 pub fn tree_line(alloc: Global, schemas: &[Arc<Schema>], trees: &DomainEnd) -> Result<Str, NoMemory>
     ensures { IfOk result (λ text. text ≡ spec.tree_line (map (λ s. s.value) schemas.now) trees.now) }

@@ -1,4 +1,4 @@
-//! The texts of what listeners are answered. Each function appends to the text.
+//! The texts of replies to listeners' calls. Each function appends to the text.
 ghost use Rattle.std.specs.Prelude.{◌≡◌, ◌∷◌, ◌++◌, OnOk, codes, string_bytes};
 ghost use Rattle.serde_json.specs.Written.{compact_text};
 ghost use Rattle.sal_script.specs.BatchData.{batch_data};
@@ -11,7 +11,7 @@ use sal_schema::Schema;
 use sal_types::{NoMemory, Path, push_word};
 use std::alloc::Global;
 
-// A new listener, with what it begins with.
+// A new listener, with its snapshot.
 pub(crate) fn push_listener(
     alloc: Global,
     text: &mut String,
@@ -27,7 +27,7 @@ pub(crate) fn push_listener(
     push_listened(alloc, text, schema, path, &opened.rows)
 }
 
-// What changed for a listener.
+// A batch of a listener.
 pub(crate) fn push_batch(
     alloc: Global,
     text: &mut String,
@@ -42,7 +42,7 @@ pub(crate) fn push_batch(
     push_array(alloc, text, schema, batch.lists.items())
 }
 
-// What a client has of its listener.
+// A client's mirror of its listener.
 pub(crate) fn push_mirror(
     alloc: Global,
     text: &mut String,
@@ -57,7 +57,7 @@ pub(crate) fn push_mirror(
     push_listened(alloc, text, schema, path, rows)
 }
 
-// A space, and the rows at a path that is listened to.
+// A space, and the rows at the path of a listener.
 fn push_listened(
     alloc: Global,
     text: &mut String,

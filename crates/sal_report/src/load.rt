@@ -1,4 +1,4 @@
-//! The summary of a load: how many calls, commits and rows it has, and the sum of its numbers.
+//! The summary of a load: the numbers of its calls, commits and rows, and the sum of its numbers.
 ghost use Rattle.std.specs.Prelude.{◌≡◌, ◌++◌, [], ◌∷◌, IfOk, OnOk, codes, string_bytes};
 ghost use Rattle.sal_script.specs.Load as spec;
 ghost use Rattle.sal_script.specs.Words.{number};
@@ -10,7 +10,8 @@ use sal_types::{NoMemory, Str};
 use std::alloc::Global;
 
 /// The summary of a load of this many rounds, whose values begin after this number: its words, the entries of the log, the commits, the rows of the
-/// configuration at the end, and the sum of the unsigned leafs of node 2 there, which in the schema of a load is `v`. It fails only where memory runs out.
+/// configuration at the end, and the sum of the unsigned leafs of node 2 there, which in the schema of a load is `v`. It fails only if memory runs
+/// out.
 pub fn summary(
     alloc: Global,
     rounds: u32,
@@ -26,7 +27,7 @@ pub fn summary(
     Ok(Str::from_string(text))
 }
 
-// The line of the words.
+// The line of the command's words.
 fn push_load(text: &mut String, rounds: u32, start: u32) -> Result<(), NoMemory>
     ensures { OnOk result (string_bytes text.new ≡ string_bytes text.old ++ (codes "load" ++ (number rounds ++ (number start ++ (10 ∷ []))))) }
 {
@@ -34,7 +35,7 @@ fn push_load(text: &mut String, rounds: u32, start: u32) -> Result<(), NoMemory>
     Ok(())
 }
 
-// The lines of what is counted.
+// The lines of the counts.
 fn push_totals(
     alloc: Global,
     text: &mut String,

@@ -1,13 +1,14 @@
-//! Of which domains a report has a line: the mounts of a log are made once more.
+//! Which domains a report has a line for: the mounts of a log are applied again.
 ghost use Rattle.std.specs.Prelude.{◌≡◌, ℕ, ◌||◌, ◌<◌, ◌^◌, [], ◌∷◌, ◌++◌, List, Bool as Truth, false, cond, length, nat_eq, slice_index_or, IfOk, OnOk};
 ghost use Rattle.std.specs.List.{All, filter, range_with_len};
 ghost use Rattle.sal_mount.specs.declared.call.MountCall.{MountCall};
 ghost use Rattle.sal_mount.specs.declared.call.MountCall.TheVariants.{Mount, Unmount};
 ghost use Rattle.sal_mount.specs.Mounts.{made_of, was_mounted};
+ghost use Rattle.sal_history.specs.MountCalls.{mounts_in, with_call};
 ghost use Rattle.sal_history.specs.Services.{mount_call};
 ghost use Rattle.sal_history.specs.World.{Domain};
 ghost use Rattle.sal_script.specs.Report as spec;
-ghost use Rattle.sal_report.specs.Replayed.{Follows, mounts_in, with_call};
+ghost use Rattle.sal_report.specs.Replayed.{Follows};
 
 use sal_history::{Call, Entry};
 use sal_mount::{MountFault, Mounts};
@@ -75,7 +76,7 @@ fn replay_all(mounts: &mut Mounts, marks: &mut [bool], log: &[Entry]) -> Result<
     Ok(())
 }
 
-// Makes the call once more, if it is one on mounts.
+// Applies the call again, if it is one on mounts.
 fn replay(mounts: &mut Mounts, marks: &mut [bool], call: &Call) -> Result<(), NoMemory>
     ensures follows { OnOk result ((calls : List MountCall) → Follows calls mounts.old marks.old → Follows (with_call calls (mount_call call.now)) mounts.new marks.new) }
     ensures devices { OnOk result (mounts.new.devices ≡ mounts.old.devices) }

@@ -1,8 +1,7 @@
 //! The pieces of a line: words, numbers, paths and rows. Each function appends to the text.
-ghost use Rattle.std.specs.Prelude.{◌≡◌, ◌∷◌, ◌++◌, OnOk, false, string_bytes};
+ghost use Rattle.std.specs.Prelude.{◌≡◌, ◌∷◌, ◌++◌, OnOk, string_bytes};
 ghost use Rattle.json.specs.Print.{quoted};
-ghost use Rattle.serde_json.specs.View.{view};
-ghost use Rattle.serde_json.specs.Written.{compact_text, has_float};
+ghost use Rattle.serde_json.specs.Written.{compact_text};
 ghost use Rattle.sal_pathtext.specs.Written.{written};
 ghost use Rattle.sal_data.specs.Written.{write_data};
 ghost use Rattle.sal_script.specs.Report as spec;
@@ -11,8 +10,8 @@ use sal_data::write_data;
 use sal_pathtext::write_path;
 use sal_rows::Rows;
 use sal_schema::Schema;
+use sal_tree_text::{push_string, push_value};
 use sal_types::{NoMemory, Path};
-use serde_json::Value;
 use std::alloc::Global;
 
 // A space and a number.
@@ -29,24 +28,6 @@ pub(crate) fn push_numbered(text: &mut String, word: &str, number: u64) -> Resul
 {
     text.push_str(word)?;
     push_number(text, number)
-}
-
-// The JSON text of a value.
-pub(crate) fn push_value(alloc: Global, text: &mut String, value: &Value) -> Result<(), NoMemory>
-    requires { has_float (view value.now) ≡ false }
-    ensures { OnOk result (string_bytes text.new ≡ string_bytes text.old ++ compact_text (view value.now)) }
-{
-    let written = value.to_string(alloc)?;
-    text.push_str(written.as_str())?;
-    Ok(())
-}
-
-// A JSON text of these words.
-pub(crate) fn push_string(alloc: Global, text: &mut String, words: &str) -> Result<(), NoMemory>
-    ensures { OnOk result (string_bytes text.new ≡ string_bytes text.old ++ quoted words.now) }
-{
-    let words = String::from_str(alloc, words)?;
-    push_value(alloc, text, &Value::String(words))
 }
 
 // A space and a JSON text of these words.

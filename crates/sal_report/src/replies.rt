@@ -45,7 +45,7 @@ pub(crate) fn push_reply(
     }
 }
 
-// The answer to a shared call.
+// The reply to a shared call.
 fn push_call(
     alloc: Global,
     text: &mut String,
@@ -180,7 +180,7 @@ fn push_outcome(
     }
 }
 
-// A receipt that a pump decided, with its outcome.
+// The receipt of a pump, with its outcome.
 fn push_decided(
     alloc: Global,
     text: &mut String,
@@ -223,7 +223,7 @@ fn push_refusal(
     }
 }
 
-// What a read found at a path.
+// The rows of a read at a path.
 fn push_rows(
     alloc: Global,
     text: &mut String,

@@ -9,7 +9,8 @@ use std::alloc::Global;
 use std::marker::Model;
 use std::sync::Arc;
 
-/// The schemas of the domains, by number, each by its last version, and one without nodes for a number that none has. A contract sees their tables.
+/// The schemas of the domains, by number, each by its last version, and one without nodes for a number without a schema. A contract sees their
+/// tables.
 #[derive(Drop)]
 pub(crate) struct Schemas<'a> {
     list: &'a [Arc<Schema>],

@@ -1,4 +1,4 @@
-//! The texts of what services answer: requests and their outputs, notifications, mounts. Each function appends to
+//! The texts of services' replies: requests and their outputs, notifications, mounts. Each function appends to
 //! the text.
 ghost use Rattle.std.specs.Prelude.{◌≡◌, [], ◌∷◌, ◌++◌, IfOk, OnOk, Some, codes, string_bytes};
 ghost use Rattle.std.specs.List.{slice_get};
@@ -12,15 +12,16 @@ ghost use Rattle.sal_script.specs.Report as spec;
 
 use crate::arrays::{Item, push_array};
 use crate::breaches::push_node;
-use crate::pieces::{push_data, push_numbered, push_path, push_string};
+use crate::pieces::{push_data, push_numbered, push_path};
 use sal_note::Note;
 use sal_rows::Rows;
 use sal_rpc::Request;
 use sal_schema::Schema;
+use sal_tree_text::push_string;
 use sal_types::{NoMemory, Path, PathFault, Step, push_word};
 use std::alloc::Global;
 
-// The domain that is mounted at a path, if one is.
+// The domain that is mounted at a path, if any.
 pub(crate) fn push_mount(text: &mut String, mount: Option<u32>) -> Result<(), NoMemory>
     ensures { OnOk result (string_bytes text.new ≡ string_bytes text.old ++ spec.mount_text mount) }
 {
@@ -92,7 +93,7 @@ fn output_of(schema: &Schema, rpc: u32) -> u32
     child_at(schema, rpc, 1).unwrap_or(rpc)
 }
 
-// The child of a node at this place among its children.
+// The child of a node at this index among its children.
 fn child_at(schema: &Schema, node: u32, place: usize) -> Option<u32>
     ensures { result ≡ slice_get (children_of schema.now (Some node)) place }
 {
@@ -138,7 +139,7 @@ fn top_path(alloc: Global, node: u32) -> Result<Path, NoMemory>
 
 // ---- notifications
 
-// What waited for a client.
+// The notifications that waited for a client.
 pub(crate) fn push_notes(
     alloc: Global,
     text: &mut String,

@@ -1,4 +1,4 @@
-//! What a domain has at the end of a run.
+//! A domain at the end of a run.
 
 use sal_tree::Pair;
 use std::marker::Model;

@@ -8,7 +8,7 @@ use sal_json::ScalarFault;
 use sal_rows::{CandidateKind, ClashKind};
 use sal_types::Store;
 
-/// The word of a store, as reports have it.
+/// The word of a store in reports.
 pub fn store_word(store: Store) -> &'static str
     ensures { result.now ≡ store_text store }
 {
@@ -49,7 +49,7 @@ pub(crate) fn truth_word(truth: bool) -> &'static str
     if truth { "true" } else { "false" }
 }
 
-// Why a value is none of its type.
+// Why a value is not of its type.
 pub(crate) fn scalar_word(fault: ScalarFault) -> &'static str
     ensures { result.now ≡ scalar_text fault }
 {

@@ -1,4 +1,4 @@
-//! The bounds of ranges, of any size.
+//! The bounds of ranges, of any magnitude.
 ghost use Rattle.std.specs.Prelude.{◌≡◌, ℕ, ◌+◌, ◌-◌, ◌*◌, ◌<◌, ◌≤◌, ◌^◌, nat_lt, nat_le, int_lt, ◌&&◌, ◌==◌, min, length, option_map, IfSome, IsTrue, Some, None, if◌then◌else◌};
 ghost use Rattle.std.specs.List.{list_all, prefix_len};
 ghost use Rattle.std.specs.Char.{is_ascii_digit};
@@ -10,16 +10,16 @@ use crate::ranges::Part;
 use crate::words::place_of;
 use std::cmp::Ordering;
 
-/// A number without a sign: the digits before its point, without zeros at their front, and what stands behind it.
+/// A number without a sign: the digits before its point, without leading zeros, and its fraction.
 ///
-/// `fraction` counts in units of the type, 10 to the power of its fraction digits being a whole one.
+/// `fraction` counts in units of the type: 10 to the power of its fraction digits is one whole.
 #[derive(Clone, Copy)]
 pub(crate) struct Magnitude<'t> {
     pub(crate) whole: &'t [u8],
     pub(crate) fraction: u128,
 }
 
-/// The number of a bound in units of the type. It is large where 128 bits do not hold it.
+/// The number of a bound in units of the type. `Large` if it does not fit 128 bits.
 #[derive(Clone, Copy)]
 pub(crate) enum Bound<'t> {
     Small(i128),
@@ -29,7 +29,7 @@ pub(crate) enum Bound<'t> {
     },
 }
 
-/// How many units a whole one has.
+/// How many units one whole has.
 pub(crate) fn scale_of(digits: u8) -> u128
     requires { digits ≤ 18 }
     ensures { result ≡ 10 ^ digits }
@@ -44,14 +44,14 @@ fn zeros(text: &[u8]) -> usize
     text.iter().take_while(|c| **c == b'0').count()
 }
 
-/// The digits without the zeros at their front.
+/// The digits without leading zeros.
 fn without_zeros(text: &[u8]) -> &[u8]
     ensures { result.now ≡ without_zeros text.now }
 {
     &text[zeros(text)..]
 }
 
-/// The number that a text without a sign writes.
+/// The value of a text without a sign.
 fn read_magnitude<'t>(text: &'t [u8], digits: u8) -> Option<Magnitude<'t>>
     requires { digits ≤ 18 }
     ensures value { option_map (size_of (10 ^ digits)) result ≡ spec.magnitude digits text.now }
@@ -68,7 +68,7 @@ fn read_magnitude<'t>(text: &'t [u8], digits: u8) -> Option<Magnitude<'t>>
     magnitude_of(&text[..point], further, digits)
 }
 
-/// The number with these digits, and those behind its point, which may be none.
+/// The number with these digits, and these after its point, of which there may be none.
 fn magnitude_of<'t>(whole: &'t [u8], further: &[u8], digits: u8) -> Option<Magnitude<'t>>
     requires few { digits ≤ 18 }
     requires plain { IsTrue (list_all is_ascii_digit further.now) }
@@ -84,7 +84,7 @@ fn magnitude_of<'t>(whole: &'t [u8], further: &[u8], digits: u8) -> Option<Magni
     })
 }
 
-/// What these digits write behind a point.
+/// The value of these digits after a point.
 fn fraction_of(further: &[u8], digits: u8) -> u128
     requires few { digits ≤ 18 }
     requires short { length further.now ≤ digits }
@@ -95,7 +95,7 @@ fn fraction_of(further: &[u8], digits: u8) -> u128
     decimal(further).saturating_mul(scale_of(digits - further.len() as u8))
 }
 
-/// How many units the number has, or 2^128 - 1 where it has more.
+/// How many units the number has, or 2^128 - 1 if it has more.
 fn units(magnitude: &Magnitude, digits: u8) -> u128
     requires { digits ≤ 18 }
     ensures { result ≡ min (size_of (10 ^ digits) magnitude.now) (2 ^ 128 - 1) }
@@ -105,7 +105,7 @@ fn units(magnitude: &Magnitude, digits: u8) -> u128
         .saturating_add(magnitude.fraction)
 }
 
-/// The bound with this sign and size.
+/// The bound with this sign and magnitude.
 fn signed_bound<'t>(negative: bool, magnitude: Magnitude<'t>, digits: u8) -> Bound<'t>
     requires few { digits ≤ 18 }
     requires normal { IsNormal (10 ^ digits) magnitude }
@@ -121,7 +121,7 @@ fn signed_bound<'t>(negative: bool, magnitude: Magnitude<'t>, digits: u8) -> Bou
     }
 }
 
-/// The bound that digits write, with a sign or without.
+/// The bound of a number in digits, with a sign or without.
 fn read_written<'t>(text: &'t [u8], digits: u8) -> Option<Bound<'t>>
     requires { digits ≤ 18 }
     ensures value { option_map (number_of (10 ^ digits)) result ≡ spec.written digits text.now }
@@ -135,7 +135,7 @@ fn read_written<'t>(text: &'t [u8], digits: u8) -> Option<Bound<'t>>
     }
 }
 
-/// The bound that a text writes, where these are the numbers that there may be at most.
+/// The bound of a text; `min` and `max` are the ends of `outer`.
 pub(crate) fn read_bound<'t>(text: &'t [u8], outer: Part, digits: u8) -> Option<Bound<'t>>
     requires { digits ≤ 18 }
     ensures value { option_map (number_of (10 ^ digits)) result ≡ spec.bound digits outer text.now }
@@ -150,7 +150,7 @@ pub(crate) fn read_bound<'t>(text: &'t [u8], outer: Part, digits: u8) -> Option<
     read_written(text, digits)
 }
 
-/// Which of two numbers is the greater, by digits without zeros at their front.
+/// Which of two numbers is the greater, by digits without leading zeros.
 fn order_of_digits(a: &[u8], b: &[u8]) -> Ordering
     ensures { AreOrdered result a.now b.now }
 {

@@ -1,4 +1,4 @@
-//! Whether ranges hold all numbers of others.
+//! Whether ranges contain all numbers of others.
 ghost use Rattle.std.specs.Prelude.{◌≡◌, ◌≤◌, ◌≤ℤ◌, pos, ◌+ℤ◌, FitsSigned, int_lt, int_le, if◌then◌else◌, length, drop, IsTrue};
 ghost use Rattle.std.specs.Int.{w128};
 ghost use Rattle.std.specs.List.{list_all, prefix_len};
@@ -7,7 +7,7 @@ ghost use Rattle.sal_restrict.specs.Ranges.{is_ascending, covers};
 
 use crate::ranges::Part;
 
-/// The number, or the one behind the part where that is greater.
+/// The number, or the one after the end of the part if that is greater.
 fn past(part: &Part, number: i128) -> i128
     requires { FitsSigned w128 (part.now.high +ℤ pos 1) }
     ensures { result ≡ (if int_le number part.now.high then part.now.high +ℤ pos 1 else number) }
@@ -19,7 +19,7 @@ fn past(part: &Part, number: i128) -> i128
     }
 }
 
-/// Whether the parts hold each of these numbers.
+/// Whether the parts contain each of these numbers.
 fn covers(parts: &[Part], numbers: Part) -> bool
     requires order { IsTrue (is_ascending parts.now) }
     requires some { numbers.low ≤ℤ numbers.high }
@@ -38,7 +38,7 @@ fn covers(parts: &[Part], numbers: Part) -> bool
     false
 }
 
-/// How many parts at the front end before these numbers.
+/// How many of the first parts end before these numbers.
 fn ended(parts: &[Part], numbers: &Part) -> usize
     ensures value { result ≡ prefix_len (λ (part : Numbers). int_lt part.high numbers.now.low) parts.now }
     ensures within { result ≤ length parts.now }
@@ -49,14 +49,14 @@ fn ended(parts: &[Part], numbers: &Part) -> usize
         .count()
 }
 
-/// The parts but those at the front that end before these numbers.
+/// The parts without the first ones that end before these numbers.
 fn not_ended<'p>(parts: &'p [Part], numbers: &Part) -> &'p [Part]
     ensures { result.now ≡ drop (prefix_len (λ (part : Numbers). int_lt part.high numbers.now.low) parts.now) parts.now }
 {
     &parts[ended(parts, numbers)..]
 }
 
-/// Whether ascending parts hold each number of these, which ascend too.
+/// Whether ascending parts contain each number of these, which ascend too.
 pub(crate) fn all_covered(within: &[Part], parts: &[Part]) -> bool
     requires within { IsTrue (is_ascending within.now) }
     requires order { IsTrue (is_ascending parts.now) }

@@ -1,10 +1,10 @@
-//! Numbers that digits write.
+//! Decimal numbers.
 ghost use Rattle.std.specs.Prelude.{◌≡◌, SomeIff, FitsSigned, ◌^◌, ◌-◌, min};
 ghost use Rattle.std.specs.Int.{w128};
 ghost use Rattle.sal_restrict.specs.Bounds as spec;
 
 use sal_types::all_digits;
-/// The number that these digits write, or 2^128 - 1 where it is greater.
+/// The value of these digits, or 2^128 - 1 if it is greater.
 pub fn decimal(text: &[u8]) -> u128
     ensures { result ≡ min (spec.decimal text.now) (2 ^ 128 - 1) }
 {
@@ -17,14 +17,14 @@ pub fn decimal(text: &[u8]) -> u128
     number
 }
 
-/// Whether the text has digits, and nothing else.
+/// Whether the text has digits only, at least one.
 pub fn is_digits(text: &[u8]) -> bool
     ensures { result ≡ spec.is_digits text.now }
 {
     !text.is_empty() && all_digits(text)
 }
 
-/// The number with this sign, where 128 bits hold it.
+/// The number with this sign, if it fits 128 bits.
 pub fn small(negative: bool, size: u128) -> Option<i128>
     ensures { SomeIff result (FitsSigned w128 (spec.signed negative size)) (spec.signed negative size) }
 {

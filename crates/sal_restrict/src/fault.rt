@@ -1,17 +1,17 @@
-//! Why a text is no range.
+//! Why a text is not a range.
 ghost use Rattle.std.specs.Prelude.{◌≡◌};
 ghost use Rattle.sal_restrict.specs.declared.fault.RangeFault.TheVariants.{NoMemory};
 
 use std::alloc::{AllocError, AllocFailed};
 use thiserror::Error;
 
-/// Why the text of a range was not taken.
+/// Why the text of a range is refused.
 #[derive(Clone, Copy, Debug, PartialEq, Eq, Error)]
 pub enum RangeFault {
-    /// The text has not the form of a range, or its bounds or parts are out of order.
+    /// The text is not of the form of a range, or its bounds or parts are out of order.
     #[error("this is no range")]
     BadText,
-    /// It has the form, but a number of it is not in the range that it restricts.
+    /// It has the form, but one of its numbers is not in the range that it restricts.
     #[error("the range is wider than the one that it restricts")]
     Wider,
     /// Memory ran out.

@@ -1,18 +1,18 @@
-//! The types of leafs: what a value may be (RFC 7950 section 9), with numbers and lengths restricted to ranges.
+//! The types of leafs: which values they have (RFC 7950 section 9), with numbers and lengths restricted to ranges.
 //!
 //! | item | what it is |
 //! |---|---|
-//! | `YangType` | a type with its restrictions, as a schema holds it |
+//! | `YangType` | a type with its restrictions |
 //! | `Ranges`, `Part` | ascending, disjoint parts of the whole numbers; one part, from its lowest to its highest number |
 //! | `Pattern` | the text of a pattern, and whether values must not match it |
-//! | `whole_text` | the pattern that a text matches where all of it matches this one |
-//! | `read_ranges` | the range that a text writes within another one, which may only be narrower |
-//! | `RangeFault` | why a text gives no range |
-//! | `decimal`, `is_digits`, `small` | the number that digits write, whether all are digits, and a number with its sign |
-//! | `front`, `behind` | the first bytes of a text, and those behind them |
+//! | `whole_text` | the pattern that requires a match of the whole text |
+//! | `read_ranges` | the range of a text within another range, which it may only narrow |
+//! | `RangeFault` | why a text is not a range |
+//! | `decimal`, `is_digits`, `small` | the value of digits, whether a text is digits, and a number with its sign |
+//! | `front`, `behind` | the first bytes of a text, and those after them |
 //!
-//! A contract sees `Ranges` as the list of its parts. `specs/RangeTexts.antt` says what a text means: it is cut at `|` and
-//! `..`, and each bound is a number of any size. `specs/Ranges.antt` says what it is to hold numbers.
+//! A contract sees `Ranges` as the list of its parts. `specs/RangeTexts.antt` defines the meaning of a text: it is split at
+//! `|` and `..`, and each bound is a number of any magnitude. `specs/Ranges.antt` defines which numbers ranges contain.
 //!
 //! ```
 //! let mut list = Vec::new(alloc);
@@ -22,9 +22,9 @@
 //! read_ranges(alloc, "0..5", &ports, 0);                        // Err(Wider)
 //! ```
 //!
-//! Costs: `read_ranges` takes time and memory linear in the text and in the parts of the outer range, whatever they are;
-//! `holds`, a comparison and a copy are linear in the parts, and a copy of a type in all that it holds. Unions may stand in
-//! one another: a copy makes as many calls in one another as unions do.
+//! Costs: `read_ranges` takes time and memory linear in the text and in the parts of the outer range;
+//! `holds`, a comparison and a copy are linear in the parts, and a copy of a type in its size. Unions may be
+//! nested: the recursion of a copy is as deep as the nesting.
 #![tactic(auto)]
 
 mod bound;

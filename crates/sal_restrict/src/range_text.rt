@@ -24,15 +24,15 @@ fn outer(within: &[Part]) -> Part
     }
 }
 
-/// The range that a text writes within another one, which may only be narrower.
+/// The range of a text within another range, which it may only narrow (RFC 7950 section 14, range-arg and length-arg).
 ///
-/// The text has parts, `a` or `a..b`, ascending and disjoint, with `|` between them. Space, tab, CR and LF may stand round
+/// The text has parts, `a` or `a..b`, ascending and disjoint, with `|` between them. Space, tab, CR and LF may be around
 /// `..` and `|`. A bound is `min` or `max`, the least or the greatest number of `within`, or decimal digits, with or without
-/// a `-`; where `digits` is not 0, a `.` and 1 to `digits` further digits may follow. The number of a bound is its value
+/// a `-`; if `digits` is not 0, a `.` and 1 to `digits` further digits may follow. The number of a bound is its value
 /// times 10 to the power of `digits`.
 ///
-/// A text of another form is `BadText`, one with bounds or parts out of order too. One with a number that is not in `within`
-/// is `Wider`: how the parts of `within` are cut does not matter, so `1..4` lies within `1..2|3..4`.
+/// A text of another form is `BadText`, and so is one with bounds or parts out of order. One with a number that is not in
+/// `within` is `Wider`. Where `within` is split into parts does not matter, so `1..4` is within `1..2|3..4`.
 pub fn read_ranges(
     alloc: Global,
     text: &str,

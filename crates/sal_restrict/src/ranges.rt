@@ -17,7 +17,7 @@ pub struct Part {
     pub high: i128,
 }
 
-/// Parts of the whole numbers, ascending and disjoint. They are seen as their list.
+/// Parts of the whole numbers, ascending and disjoint. A contract sees the list.
 #[derive(Drop)]
 pub struct Ranges {
     list: Vec<Part>,
@@ -52,7 +52,7 @@ impl Ranges {
         &self.list
     }
 
-    /// Whether a part holds the number.
+    /// Whether a part contains the number.
     pub fn holds(&self, number: i128) -> bool
         ensures { result ≡ holds self.now number }
     {
@@ -62,7 +62,7 @@ impl Ranges {
     }
 }
 
-/// The same parts once more.
+/// A copy of the parts.
 fn parts_of(alloc: Global, parts: &[Part]) -> Result<Vec<Part>, NoMemory>
     ensures { IfOk result (λ list. list.items ≡ parts.now) }
 {

@@ -1,4 +1,4 @@
-//! Parts of ranges, as a text writes them.
+//! The parts of a range's text.
 ghost use Rattle.std.specs.Prelude.{◌≡◌, ◌≢◌, ℕ, ◌+◌, ◌<◌, ◌≤◌, ◌^◌, length, drop, not, ◌&&◌, int_le, option_map, IfSome, Some, None, MatchResult, MatchOption, IfOk, ◌==◌, true};
 ghost use Rattle.std.specs.List.{slice_split, list_any, prefix_len};
 ghost use Rattle.sal_restrict.specs.declared.fault.RangeFault.TheVariants.{NoMemory, BadText, Wider};
@@ -20,7 +20,7 @@ pub(crate) struct Span<'t> {
     pub(crate) high: Bound<'t>,
 }
 
-/// The part between two bounds, where both are there.
+/// The part between two bounds, if both exist.
 fn between<'t>(low: Option<Bound<'t>>, high: Option<Bound<'t>>) -> Option<Span<'t>>
     ensures value { (scale : ℕ) → option_map (part_of scale) result ≡ spec.between (option_map (number_of scale) low.entry) (option_map (number_of scale) high.entry) }
     ensures read { (scale : ℕ) → IfSome low.entry (IsRead scale) → IfSome high.entry (IsRead scale) → IfSome result (IsSpanRead scale) }
@@ -31,7 +31,7 @@ fn between<'t>(low: Option<Bound<'t>>, high: Option<Bound<'t>>) -> Option<Span<'
     }
 }
 
-/// The part that a text writes: a bound, or two with `..` between them.
+/// The part of a text: a bound, or two with `..` between them.
 fn read_span<'t>(text: &'t [u8], outer: Part, digits: u8) -> Option<Span<'t>>
     requires { digits ≤ 18 }
     ensures value { option_map (part_of (10 ^ digits)) result ≡ spec.part digits outer text.now }
@@ -47,7 +47,7 @@ fn read_span<'t>(text: &'t [u8], outer: Part, digits: u8) -> Option<Span<'t>>
     between(low, high)
 }
 
-/// How long the first part of a text is.
+/// The length of the first part of a text.
 fn part_len(text: &[u8]) -> usize
     ensures value { result ≡ prefix_len (λ c. not (c == 124)) text.now }
     ensures within { result ≤ length text.now }
@@ -55,7 +55,7 @@ fn part_len(text: &[u8]) -> usize
     text.iter().take_while(|c| **c != b'|').count()
 }
 
-/// The parts that a text writes, in its order.
+/// The parts of a text, in its order.
 pub(crate) fn read_spans<'t>(
     alloc: Global,
     text: &'t [u8],
@@ -103,7 +103,7 @@ fn comes_first(span: &Span, others: &[Span]) -> bool
     is_in_order(span) && ends_before(span, others)
 }
 
-/// The parts behind one of them.
+/// The parts after one of them.
 fn behind_part<'s, 't>(spans: &'s [Span<'t>], place: usize) -> &'s [Span<'t>]
     requires { place < length spans.now }
     ensures { result.now ≡ drop (place + 1) spans.now }
@@ -123,7 +123,7 @@ pub(crate) fn are_ascending(spans: &[Span]) -> bool
     true
 }
 
-/// The part, where 128 bits hold its bounds.
+/// The part, if its bounds fit 128 bits.
 fn small_part(span: &Span) -> Option<Part>
     ensures { MatchOption result (is_span_large span.now ≡ true) (λ part. (scale : ℕ) → part ≡ part_of scale span.now) }
 {
@@ -133,7 +133,7 @@ fn small_part(span: &Span) -> Option<Part>
     }
 }
 
-/// The parts, where 128 bits hold their bounds.
+/// The parts, if their bounds fit 128 bits.
 pub(crate) fn small_parts(alloc: Global, spans: &[Span]) -> Result<Vec<Part>, RangeFault>
     ensures value { MatchResult result (λ list. (scale : ℕ) → list.items ≡ parts_of scale spans.now) (λ e. e ≢ NoMemory → (e ≡ Wider) × (list_any is_span_large spans.now ≡ true)) }
     ensures count { IfOk result (λ list. length list.items ≡ length spans.now) }

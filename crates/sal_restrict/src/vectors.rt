@@ -5,7 +5,7 @@ ghost use Rattle.sal_restrict.specs.RangeTexts.{read_ranges};
 
 use crate::fault::RangeFault;
 
-/// The definitions give what the examples say. A call does nothing: its clauses are the laws.
+/// The examples as clauses. A call does nothing.
 pub fn examples()
     ensures two { example.ports "1..4 | 10..20" ≡ Ok (example.upto 1 4 ∷ example.upto 10 20 ∷ []) }
     ensures one { example.ports "007" ≡ Ok (example.upto 7 7 ∷ []) }

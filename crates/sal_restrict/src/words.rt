@@ -1,4 +1,4 @@
-//! Words and blanks in the texts of ranges.
+//! Separators and white space in the texts of ranges.
 ghost use Rattle.std.specs.Prelude.{◌≡◌, ◌+◌, ◌<◌, ◌≤◌, length, take, drop};
 ghost use Rattle.std.specs.List.{prefix_len, suffix_len};
 ghost use Rattle.sal_restrict.specs.Words as spec;
@@ -32,7 +32,7 @@ pub fn front(text: &[u8], len: usize) -> &[u8]
     &text[..len]
 }
 
-/// What stands behind the first bytes.
+/// The bytes after the first `len`.
 #[inline]
 pub fn behind(text: &[u8], len: usize) -> &[u8]
     requires { len ≤ length text.now }
@@ -41,7 +41,7 @@ pub fn behind(text: &[u8], len: usize) -> &[u8]
     &text[len..]
 }
 
-/// The text without the blanks at its ends.
+/// The text without white space at its ends.
 pub(crate) fn trim(text: &[u8]) -> &[u8]
     ensures { result.now ≡ spec.trim text.now }
 {
@@ -49,14 +49,14 @@ pub(crate) fn trim(text: &[u8]) -> &[u8]
     &text[..text.len() - blanks_behind(text)]
 }
 
-/// Whether no blanks stand at the ends of the text.
+/// Whether the text has no white space at its ends.
 pub(crate) fn is_trimmed(text: &[u8]) -> bool
     ensures { result ≡ spec.is_trimmed text.now }
 {
     trim(text).len() == text.len()
 }
 
-/// Where the word first stands, or the length of the text where it stands nowhere.
+/// The offset of the first `word` in the text, or the length of the text if it has none.
 pub(crate) fn place_of(word: &[u8], text: &[u8]) -> usize
     ensures value { result ≡ spec.place_of word.now text.now }
     ensures within { result ≤ length text.now }

@@ -15,8 +15,8 @@ pub struct Pattern {
 
 /// The type of a leaf or leaf-list.
 ///
-/// `places` has, for each name of an enumeration, its place in the original enumeration: the one that no other is derived
-/// from. `bases` are numbers of identities. A `Leafref` is a type whose target is not looked up yet.
+/// `places` has, for each name of an enumeration, its index in the original enumeration: the one that is not derived
+/// from another. `bases` are numbers of identities. A `Leafref` is a type whose target is not resolved yet.
 #[derive(Drop, PartialEq, Eq)]
 pub enum YangType {
     Int {
@@ -65,7 +65,7 @@ impl Duplicate for Pattern {
     }
 }
 
-/// Second ones of two values.
+/// Copies of two values.
 fn both<A: Duplicate, B: Duplicate>(one: &A, other: &B) -> Result<(A, B), NoMemory>
     ensures { IfOk result (λ it. (it.0 ≡ one.now) × (it.1 ≡ other.now)) }
 {
@@ -74,7 +74,7 @@ fn both<A: Duplicate, B: Duplicate>(one: &A, other: &B) -> Result<(A, B), NoMemo
     Ok((first, second))
 }
 
-/// A list with one item more.
+/// A list with one more item.
 fn pushed<T: Drop>(list: Vec<T>, item: T) -> Result<Vec<T>, NoMemory>
     ensures { IfOk result (λ all. all.items ≡ list.items ++ item ∷ []) }
 {
@@ -84,7 +84,7 @@ fn pushed<T: Drop>(list: Vec<T>, item: T) -> Result<Vec<T>, NoMemory>
 }
 
 impl YangType {
-    /// A second type, equal to this one.
+    /// An equal copy.
     pub fn copy(&self, alloc: Global) -> Result<YangType, NoMemory>
         ensures { IfOk result (λ it. it ≡ self.now) }
     {
@@ -135,7 +135,7 @@ impl YangType {
         }
     }
 
-    /// The name of the built-in type that it is, or is derived from.
+    /// The name of its built-in type.
     pub fn builtin_name(&self) -> &'static str
         ensures { result.now ≡ builtin_name self.now }
     {

@@ -14,14 +14,14 @@ use Rattle.sal_resume.specs.Committed.{committed}
 abbrev pub newest : HubHistory → ℕ → Trees
 newest known n = record { config = newest_tree known.world known.log n Config; oper = newest_tree known.world known.log n Oper }
 
--- Held is the newest commit of domain n, with its trees, and no fault.
+-- The state has the newest commit of domain n, with its trees, and no fault.
 pub record HoldsTheNewest (known : HubHistory) (n : ℕ) (h : Held) : Type 0 where
   pub version : h.version ≡ Some (length (commits (history known.world known.log) n))
   pub trees : trees_held h ≡ newest known n
   pub fault : h.fault ≡ None
 
--- A follower of the frames of a domain, by the schema that they were written by, holds its newest commit. Premises: the trees of each commit are
--- closed, the configuration has no state data, and the values read as they are written.
+-- A follower of the frames of a domain, with the schema that wrote them, has its newest commit. Premises: the trees of each commit are
+-- closed, the configuration has no state data, and the values are read as they were written.
 abbrev pub FramesLeadToTheNewest : Type 0
 FramesLeadToTheNewest =
     (known : HubHistory) (n : ℕ) (table : SchemaTable) (bytes : List ℕ) → All (AreFollowed table) (committed known n) → Exports table (committed known n) (Ok bytes)

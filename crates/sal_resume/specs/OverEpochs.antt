@@ -1,4 +1,4 @@
--- A stream of frames that goes on over epochs.
+-- A stream of frames that continues over epochs.
 use Rattle.std.specs.Prelude.{◌≡◌, ℕ, ◌+◌, ◌<◌, List, [], ◌∷◌, ◌++◌, length}
 use Rattle.sal_rows.specs.declared.clash.Rules.{Rules}
 use Rattle.sal_schema.specs.declared.table.SchemaTable.{SchemaTable}
@@ -13,9 +13,9 @@ use Rattle.sal_resume.specs.Newest.{newest}
 abbrev pub next_after : Rules → HubHistory → List Entry → HubHistory
 next_after rules known log = record { world = next_world rules known; log = log }
 
--- A stream ends with the newest trees of a hub: it has the frames of these trees of domain n, which may be those of many epochs. The frames of the next
--- hub from its commit 1 on, numbered on, make it the frames of these trees and those of the next hub, each once. The opening of the next hub has no
--- frame, as it is the last of the trees before.
+-- A stream ends with the newest trees of a hub: it has the frames of these trees of domain n, which may be those of many epochs. The frames of
+-- the next hub from its commit 1 on, with the next numbers, make it the frames of these trees and those of the next hub, each once. The opening
+-- of the next hub has no frame, as it is the last of the trees before.
 abbrev pub StreamsGoOnOverEpochs : Type 0
 StreamsGoOnOverEpochs =
     (table : SchemaTable) (rules : Rules) (known : HubHistory) (log : List Entry) (n : ℕ) (trees : List Trees) → n < length known.world

@@ -1,4 +1,4 @@
--- A hub that begins where a follower is.
+-- A hub that begins with the trees of a follower.
 use Rattle.std.specs.Prelude.{◌≡◌, ℕ, List, [], ◌∷◌, ◌++◌, None}
 use Rattle.std.specs.List.{All}
 use Rattle.sal_types.specs.declared.value.Store.TheVariants.{Config, Oper}
@@ -11,7 +11,7 @@ use Rattle.sal_follow.specs.Laws.{AreFollowed, AreTreesAt}
 use Rattle.sal_follow.specs.States.{Following}
 use Rattle.sal_follow.specs.Stream.{fresh, followed}
 
--- the domain that a follower holds: its schema is version 0, its trees are the opening
+-- the domain of a follower: its schema is version 0, its trees are the opening
 abbrev pub domain_held : Rules → Following → Domain
 domain_held rules f = record { table = f.schema; upgrades = []; opening = record { config = f.held.config; oper = f.held.oper }; rules = rules }
 
@@ -26,14 +26,14 @@ resumed rules f = record { world = world_held rules f; log = [] }
 abbrev pub opening_trees : List Domain → Trees
 opening_trees world = record { config = opening_of world 0 Config; oper = opening_of world 0 Oper }
 
--- Where the bytes that came are a prefix of an export of a leader's commits by the follower's schema, the opening trees of the world are the
--- leader's at the commit that the follower holds.
+-- If the bytes received are a prefix of an export of a leader's commits by the follower's schema, the opening trees of the world are the
+-- leader's at the follower's commit.
 abbrev pub OpensAtTheLeader : Following → List Domain → Type 0
 OpensAtTheLeader f world =
     (trees : List Trees) (bytes more : List ℕ) → All (AreFollowed f.schema) trees → AreTexts f.schema (frames trees) → too_long f.schema (frames trees) ≡ None
     → f.held ≡ followed f.schema fresh bytes → bytes ++ more ≡ exported f.schema trees → AreTreesAt trees f.held.version (opening_trees world)
 
--- neither tree held breaks a structural rule
+-- neither tree breaks a structural rule
 pub record KeepsTheRules (f : Following) : Type 0 where
   pub config : breach f.schema Config f.held.config ≡ None
   pub oper : breach f.schema Oper f.held.oper ≡ None

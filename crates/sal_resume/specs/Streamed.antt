@@ -1,4 +1,4 @@
--- A follower of a stream that is there whole.
+-- A follower of a whole stream.
 use Rattle.std.specs.Prelude.{◌≡◌, ◌⊎◌, ℕ, List, Result, Ok, Err}
 use Rattle.sal_schema.specs.declared.table.SchemaTable.{SchemaTable}
 use Rattle.sal_follow.specs.declared.fault.FollowFault.{FollowFault}
@@ -10,7 +10,7 @@ use Rattle.sal_follow.specs.Stream.{answer, followed, fresh}
 abbrev pub before_of : SchemaTable → Following
 before_of table = record { schema = table; held = fresh }
 
--- It has taken the stream, which has no fault; or it answers the stream's first fault, or that memory ran out.
+-- It has taken the stream, which has no fault; or the result is the stream's first fault, or that memory ran out.
 abbrev pub IsFollowerOf : SchemaTable → List ℕ → Result Following FollowFault → Type 0
 IsFollowerOf table stream (Ok f) = (f ≡ record { schema = table; held = followed table fresh stream }) × (answer f.held ≡ Ok f.held.version)
 IsFollowerOf table stream (Err fault) = (fault ≡ NoMemory) ⊎ (answer (followed table fresh stream) ≡ Err fault)

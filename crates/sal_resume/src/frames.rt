@@ -28,7 +28,7 @@ fn domain_frames(
 
 /// The frames of the domain's opening and of all its commits, by the present version of its schema.
 ///
-/// A follower of these bytes by that schema holds the newest trees of the domain (`laws::frames_lead_to_the_newest`).
+/// A follower of these bytes by that schema has the newest trees of the domain (`laws::frames_lead_to_the_newest`).
 pub fn frames_of(alloc: Global, hub: &Hub, domain: u32) -> Result<Bytes, ExportFault>
     requires { domain < length hub.now.world }
     ensures { Exports (tables_now hub.now.world (history hub.now.world hub.now.log) domain) (committed hub.now domain) result }
@@ -51,8 +51,8 @@ pub fn frames_since(alloc: Global, hub: &Hub, domain: u32, from: u64) -> Result<
 
 /// The frames of the domain's commits from a commit on, numbered from the number of the next frame on.
 ///
-/// With them a stream goes on over epochs: after the frames of one epoch come those of the next hub from its commit 1 on, numbered on. A follower of the
-/// stream does not notice (`laws::streams_go_on_over_epochs`).
+/// They continue a stream over epochs: after the frames of one epoch come those of the next hub from its commit 1 on, with the next numbers. A
+/// follower of the stream does not notice (`laws::streams_go_on_over_epochs`).
 pub fn frames_on(
     alloc: Global,
     hub: &Hub,

@@ -2,12 +2,12 @@
 ghost use Rattle.sal_resume.specs.Newest.{FramesLeadToTheNewest};
 ghost use Rattle.sal_resume.specs.OverEpochs.{StreamsGoOnOverEpochs};
 
-/// A follower of the frames of a domain holds its newest commit, and the newest trees.
+/// A follower of the frames of a domain has its newest commit, and the newest trees.
 pub fn frames_lead_to_the_newest()
     ensures { FramesLeadToTheNewest }
 {}
 
-/// A stream that ends with the newest trees of a hub goes on with the frames of the next hub from commit 1 on, whatever calls come to it.
+/// A stream that ends with the newest trees of a hub continues with the frames of the next hub from commit 1 on, for any calls to it.
 pub fn streams_go_on_over_epochs()
     ensures { StreamsGoOnOverEpochs }
 {}

@@ -1,4 +1,4 @@
-//! A hub over the trees that a follower holds.
+//! A hub over the trees of a follower.
 ghost use Rattle.std.specs.Prelude.{◌≡◌, [], ◌∷◌, IfOk, IfErr, MatchResult};
 ghost use Rattle.sal_hub.specs.declared.opening.OpenFault.TheVariants.{NoMemory as Full};
 ghost use Rattle.sal_hub.specs.Openings.{IsFaultOf};
@@ -20,9 +20,9 @@ fn alone(alloc: Global, device: Device) -> Result<Vec<Device>, NoMemory>
     Ok(devices)
 }
 
-/// A hub without calls over the domain that the follower holds, under the version rules.
+/// A hub without calls over the domain of the follower, under the version rules.
 ///
-/// Its opening trees are those of the commit that the follower holds. They are closed and without state data in the configuration, so it is
+/// Its opening trees are those of the follower's commit. They are closed and without state data in the configuration, so it is
 /// refused only if a tree breaks a structural rule, or memory runs out.
 pub fn resume(alloc: Global, follower: Follower, rules: Rules) -> Result<Hub, OpenFault>
     ensures opened { MatchResult result (λ hub. hub ≡ resumed rules follower) (IsFaultOf (world_held rules follower)) }

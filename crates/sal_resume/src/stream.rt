@@ -1,4 +1,4 @@
-//! A follower of a stream that is there whole.
+//! A follower of a whole stream.
 ghost use Rattle.std.specs.Prelude.{◌≡◌};
 ghost use Rattle.sal_json.specs.Patterns.{patterns_of};
 ghost use Rattle.sal_resume.specs.Streamed.{IsFollowerOf, before_of};
@@ -10,7 +10,7 @@ use sal_types::NoMemory;
 use std::alloc::Global;
 use std::sync::Arc;
 
-// The follower after the stream, if all of it is good.
+// The follower after the stream, if all of it is valid.
 fn fed(mut follower: Follower, stream: &[u8]) -> Result<Follower, FollowFault>
     requires { follower ≡ before_of follower.schema }
     ensures { IsFollowerOf follower.schema stream.now result }
@@ -21,7 +21,7 @@ fn fed(mut follower: Follower, stream: &[u8]) -> Result<Follower, FollowFault>
     }
 }
 
-/// A follower that has taken the stream, as one that was kept in a file; or the stream's first fault.
+/// A follower that has taken the stream, such as one from a file; or the stream's first fault.
 pub fn follower_of(
     alloc: Global,
     schema: Arc<Schema>,

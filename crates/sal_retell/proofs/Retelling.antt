@@ -21,10 +21,12 @@ use Rattle.sal_history.specs.declared.reply.Reply.{Reply}
 use Rattle.sal_history.specs.declared.reply.Reply.TheVariants.{Begun, Chain, Accepted, Receipt, Found, Late, Refused}
 use Rattle.sal_history.specs.Answered.{Answered}
 use Rattle.sal_history.specs.History.{answer, answered_as, base_on, began_by, begins_in, chain_domains, chain_refusal, chained_base, closes, commits, decide_front, decide_next, decided_by, domain_of, fault_if, has_open, history, is_closed, is_live, is_marked, is_spent, last_begun, marks, nowhere, opened_chain, outcome, outcomes, pumped, refused_or, reply_to, sent_by, sents, settled, spends, stands_on}
+use Rattle.sal_history.specs.Numbered.{numbered}
 use Rattle.sal_history.specs.Services.{mount_call, mounting}
 use Rattle.sal_history.specs.Submissions.{Base, Sent, done, done_ops, failing_from, is_done, is_in, last_from}
 use Rattle.sal_history.specs.Versions.{tables_now}
 use Rattle.sal_history.specs.World.{Domain}
+use Rattle.sal_history.proofs.Numbered.{numbered-map}
 use Rattle.sal_schema.specs.declared.table.SchemaTable.{SchemaTable}
 use Rattle.sal_types.proofs.Shared.{listed}
 use Rattle.sal_retell.specs.declared.front.Footing.{Footing}
@@ -174,15 +176,15 @@ module _ (world : List Domain) where
       standing_same chain None = ap (λ (n : ℕ). (let f : Footing = record { domain = domain_of answered chain; commit = n; chain = Some chain } in f)) (newest_same (domain_of answered chain))
       standing_same chain (Some s) = refl
 
-      sent_at : (o : Option ℕ) → option_and_then (λ n. slice_get (map sent_on (sents answered)) (n - 1)) o ≡ option_map sent_on (option_and_then (λ n. slice_get (sents answered) (n - 1)) o)
+      sent_at : (o : Option ℕ) → option_and_then (λ n. numbered (map sent_on (sents answered)) n) o ≡ option_map sent_on (option_and_then (λ n. numbered (sents answered) n) o)
       sent_at None = refl
-      sent_at (Some n) = slice_get-map sent_on ss (n - 1)
+      sent_at (Some n) = numbered-map sent_on ss n
 
       chained_same : (chain : ℕ) → light_of.chained_on (light world answered) os chain ≡ footing_of (chained_base world answered chain)
       chained_same chain =
-          ap (λ (o : Option ℕ). light_of.standing_on l os chain (option_and_then (λ n. slice_get (map sent_on ss) (n - 1)) o)) (pending_same chain)
+          ap (λ (o : Option ℕ). light_of.standing_on l os chain (option_and_then (λ n. numbered (map sent_on ss) n) o)) (pending_same chain)
           ∙ ap (light_of.standing_on l os chain) (sent_at (stands_on answered chain))
-          ∙ standing_same chain (option_and_then (λ n. slice_get ss (n - 1)) (stands_on answered chain))
+          ∙ standing_same chain (option_and_then (λ n. numbered ss n) (stands_on answered chain))
 
       refusal_same : (chain : ℕ) → light_of.refusal_with (light world answered) os (is_live world answered (domain_of answered chain)) chain ≡ chain_refusal world answered chain
       refusal_same chain =
@@ -220,8 +222,8 @@ module _ (world : List Domain) where
           let next = outcomes answered ++ decided_by world answered (Settle receipt) in
           let taken : take (decided_after (Settle receipt) (length (outcomes answered)) (length (map sent_on ss))) os ≡ next =
           ap (λ (n : ℕ). take n os) (sym (decided_count answered (Settle receipt))) ∙ ap (take (length next)) whole ∙ take-append_seam next more in
-          (λ i. settled_on (slice_get-map sent_on ss (receipt - 1) i) (slice_get (taken i) (receipt - 1)))
-          ∙ settled_same (slice_get ss (receipt - 1)) (slice_get next (receipt - 1))
+          (λ i. settled_on (numbered-map sent_on ss receipt i) (numbered (taken i) receipt))
+          ∙ settled_same (numbered ss receipt) (numbered next receipt)
       answer_same client Pump whole =
           ap (λ (o : Option Footing). pumped_on (length (outcomes answered) + 1) o (slice_get os (length (outcomes answered)))) (slice_get-map sent_on ss (length (outcomes answered)))
           ∙ pumped_same (slice_get ss (length (outcomes answered))) refl whole

@@ -1,12 +1,12 @@
 -- Walks over lists, one item more and all; what lists that are made of others have.
-use Rattle.std.proofs.Common.{◌≡◌, ℕ, zero, suc, ◌+◌, ◌<◌, ◌≤◌, Bool, true, false, List, [], ◌∷◌, ◌++◌, drop, length, get_or, map, min, take, Option, None, Some, inl, inr, refl, ap, sym, ◌∙◌, arith, if◌then◌else◌}
+use Rattle.std.proofs.Common.{◌≡◌, ℕ, zero, suc, ◌+◌, ◌<◌, ◌≤◌, Bool, false, List, [], ◌∷◌, ◌++◌, drop, length, get_or, map, min, take, Option, None, Some, inl, inr, refl, ap, sym, ◌∙◌, arith, if◌then◌else◌}
 use Rattle.std.specs.Prelude.{◌⊎◌, ◌||◌, slice_get}
 use Rattle.std.specs.List.{cons_option, filter_map, list_any}
 use Rattle.std.specs.Option.{option_map, option_map_or, option_or, option_to_list}
 use Rattle.std.proofs.lemmas.Bool.{cases_lt}
 use Rattle.std.proofs.lemmas.List.{drop_all, drop_more, length-take, take_more}
 use Rattle.sal_history.specs.Submissions.{last_from}
-use Rattle.sal_rows.proofs.Applied.{or_assoc}
+use Rattle.sal_history.proofs.Logs.{last_from-push}
 
 -- ---- two lists side by side
 
@@ -30,15 +30,6 @@ pub both_all : {A B C : Type 0} (f : List A → List B → C) (z : C) → ((ys :
 both_all f z first second xs ys i h = at_end f z first second xs ys i (one_ends (length xs) (length ys) i h (cases_lt (length xs) (length ys)))
 
 -- ---- the last that passes a test
-
-pub last_from-push : {X : Type 0} (n : ℕ) (test : X → Bool) (xs : List X) (x : X) → last_from n test (xs ++ x ∷ []) ≡ option_or (if test x then Some (n + length xs) else None) (last_from n test xs)
-last_from-push n test [] x =
-    let here : n ≡ n + 0 = omega arith in
-    elim (test x) as (λ b. option_or None (if b then Some n else None) ≡ option_or (if b then Some (n + 0) else None) None) [ true ↦ ap Some here | false ↦ refl ]
-last_from-push n test (y ∷ xs) x =
-    let next : n + 1 + length xs ≡ n + suc (length xs) = omega arith in
-    ap (λ o. option_or o (if test y then Some n else None)) (last_from-push (n + 1) test xs x ∙ ap (λ k. option_or (if test x then Some k else None) (last_from (n + 1) test xs)) next)
-    ∙ or_assoc (if test x then Some (n + suc (length xs)) else None) (last_from (n + 1) test xs) (if test y then Some n else None)
 
 -- one item more
 pub last_more : {X : Type 0} (n : ℕ) (test : X → Bool) (xs : List X) (i k : ℕ) (d : X) (last new : Option ℕ) → i < length xs → k ≡ n + i → last ≡ last_from n test (take i xs)

@@ -1,4 +1,4 @@
--- What the answers of a log need, in lists of numbers: no trees and no operations.
+-- The input for the replies of a log, in lists of numbers: no trees and no operations.
 use Rattle.std.specs.Prelude.{◌≡◌, ℕ, false, not, ◌+◌, ◌-◌, ◌&&◌, Bool, List, [], ◌∷◌, ◌++◌, drop, length, map, take, max, min, Option, Some, None, if◌then◌else◌, nat_eq, nat_lt, option_and_then, slice_get, unwrap_or, Result, Ok, Err}
 use Rattle.std.specs.List.{filter_map, fold, list_any}
 use Rattle.std.specs.Option.{option_map, option_map_or, option_or, option_to_list}
@@ -20,6 +20,7 @@ use Rattle.sal_history.specs.declared.reply.Reply.{Reply}
 use Rattle.sal_history.specs.declared.reply.Reply.TheVariants.{Begun, Chain, Accepted, Receipt, Settled, Decided, Nothing, Found, Late, Refused}
 use Rattle.sal_history.specs.Answered.{Answered}
 use Rattle.sal_history.specs.History.{chain_domains, fault_if, opened_chain, outcomes, refused_or, sents}
+use Rattle.sal_history.specs.Numbered.{numbered}
 use Rattle.sal_history.specs.Services.{mount_call, mount_fault, mount_reply, mounting}
 use Rattle.sal_history.specs.Submissions.{Base, Sent, is_done, last_from}
 use Rattle.sal_history.specs.World.{Domain}
@@ -28,7 +29,7 @@ use Rattle.sal_retell.specs.declared.front.Front.{Front}
 use Rattle.sal_retell.specs.declared.retold.Course.{Course}
 use Rattle.sal_history.specs.declared.call.Entry.{Entry}
 
--- ---- what is kept of each entry
+-- ---- the records of each entry
 
 -- a base without its trees
 abbrev pub footing_of : Base → Footing
@@ -40,7 +41,7 @@ sent_on s = footing_of s.base
 abbrev pub began_on : Answered → Option Footing
 began_on a = option_map footing_of a.began
 
--- the place of the transaction that a call with this answer spent
+-- the index of the transaction that a call with this reply spent
 abbrev pub spent_by : Call → Reply → Option ℕ
 spent_by (Submit place ops) (Receipt n) = Some place
 spent_by (Cancel place) reply = Some place
@@ -51,12 +52,12 @@ abbrev pub closed_by : Call → Reply → Option ℕ
 closed_by (CloseChain id) Accepted = Some id
 closed_by call reply = None
 
--- the mark that it left
+-- the mark that it set
 abbrev pub marked_by : Call → Option ℕ
 marked_by (Mark m) = Some m
 marked_by call = None
 
--- The base of each entry's transaction, and of each receipt's; the domains of the chains; the chains that were closed, the places
+-- The base of each entry's transaction, and of each receipt's; the domains of the chains; the chains that were closed, the indexes
 -- of transactions that were spent, and the marks, in the order of the log; how many receipts are decided; how many domains there are; and
 -- the calls on mounts.
 pub record Light : Type 0 where
@@ -84,7 +85,7 @@ light world answered =
       calls = mounting answered;
     }
 
--- ---- what it answers, where these are the outcomes of the whole log
+-- ---- the replies, with the outcomes of the whole log
 
 abbrev pub has : List ℕ → ℕ → Bool
 has list n = list_any (λ x. nat_eq x n) list
@@ -103,7 +104,7 @@ commits_of domain [] os = 0
 commits_of domain (f ∷ fs) [] = 0
 commits_of domain (f ∷ fs) (o ∷ os) = (if nat_eq f.domain domain && is_done o then 1 else 0) + commits_of domain fs os
 
--- counted from n on, the first receipt of the chain that was decided as something else than done
+-- counted from n on, the first receipt of the chain with an outcome other than done
 abbrev pub failing_on : ℕ → ℕ → List Footing → List Outcome → Option ℕ
 failing_on n chain [] os = None
 failing_on n chain (f ∷ fs) [] = None
@@ -112,7 +113,7 @@ failing_on n chain (f ∷ fs) (o ∷ os) = if is_on chain f && not (is_done o) t
 abbrev pub later_than : ℕ → Option ℕ → Option ℕ
 later_than decided receipt = option_and_then (λ n. if nat_lt decided n then Some n else None) receipt
 
--- the transaction that began there is not spent
+-- the transaction that began at the index is not spent
 abbrev pub is_unspent : List ℕ → Option ℕ → Bool
 is_unspent spent begun = option_map_or (λ place. not (has spent place)) begun false
 
@@ -120,7 +121,7 @@ is_unspent spent begun = option_map_or (λ place. not (has spent place)) begun f
 abbrev pub nowhere_on : Footing
 nowhere_on = record { domain = 0; commit = 0; chain = None }
 
--- the footing that an entry has at its place, if any
+-- the footing of the entry at an index, if any
 abbrev pub footing_at : List (Option Footing) → ℕ → Footing
 footing_at began place = unwrap_or (unwrap_or (slice_get began place) None) nowhere_on
 
@@ -136,7 +137,7 @@ abbrev pub pumped_on : ℕ → Option Footing → Option Outcome → Reply
 pumped_on receipt (Some f) (Some o) = Decided receipt f.domain o
 pumped_on receipt f o = Nothing
 
--- up to which receipt all are decided after a settle, of so many
+-- the receipt up to which all of `sent` are decided after a settle
 abbrev pub settled_upto : ℕ → ℕ → ℕ → ℕ
 settled_upto receipt decided sent = max decided (min receipt sent)
 
@@ -154,9 +155,9 @@ module _ (l : Light) where
   by_mounts call = mount_reply (mounts.reply_to l.devices (mounts.made_of l.devices l.calls) call)
 
   abbrev pub domain_on : ℕ → ℕ
-  domain_on chain = unwrap_or (slice_get l.chains (chain - 1)) 0
+  domain_on chain = unwrap_or (numbered l.chains chain) 0
 
-  -- the pending receipt on which the chain's next transaction is based
+  -- the pending receipt that the chain's next transaction follows
   abbrev pub pending_on : ℕ → Option ℕ
   pending_on chain = later_than l.decided (last_from 1 (is_on chain) l.sent)
 
@@ -187,9 +188,9 @@ module _ (l : Light) where
     standing_on chain (Some f) = record { domain = f.domain; commit = f.commit; chain = Some chain }
 
     abbrev pub chained_on : ℕ → Footing
-    chained_on chain = standing_on chain (option_and_then (λ n. slice_get l.sent (n - 1)) (pending_on chain))
+    chained_on chain = standing_on chain (option_and_then (λ n. numbered l.sent n) (pending_on chain))
 
-    -- the base of the transaction that the call asks for
+    -- the base of the transaction that the call begins
     abbrev pub asked_on : Call → Footing
     asked_on (Begin domain mode) = newest_on domain None
     asked_on (ChainBegin chain mode) = chained_on chain
@@ -206,12 +207,12 @@ module _ (l : Light) where
     chain_begun chain = refused_or (refusal_with (live (domain_on chain)) chain) (Begun (chained_on chain).commit (pending_on chain))
 
     abbrev pub settled_in : ℕ → Reply
-    settled_in receipt = settled_on (slice_get l.sent (receipt - 1)) (slice_get (take (settled_upto receipt l.decided (length l.sent)) os) (receipt - 1))
+    settled_in receipt = settled_on (numbered l.sent receipt) (numbered (take (settled_upto receipt l.decided (length l.sent)) os) receipt)
 
     abbrev pub pumped_in : Reply
     pumped_in = pumped_on (l.decided + 1) (slice_get l.sent l.decided) (slice_get os l.decided)
 
-    -- the answer to a call, or `Nothing` if it needs data
+    -- the reply to a call, or `Nothing` if it needs data
     abbrev pub answer_on : Call → Reply
     answer_on (Begin domain mode) = begun_on (live domain) domain (newest_on domain None).commit
     answer_on (OpenChain domain) = chain_opened domain
@@ -228,9 +229,9 @@ module _ (l : Light) where
     answer_on (After mark) = looked mark
     answer_on call = Nothing
 
--- ---- one entry more
+-- ---- one more entry
 
--- the transaction that began with this answer, on this footing
+-- the transaction that began with this reply, on this footing
 abbrev pub began_with : Footing → Call → Reply → Option Footing
 began_with f (Begin domain mode) (Begun commit on) = Some f
 began_with f (ChainBegin chain mode) (Begun commit on) = Some f
@@ -240,7 +241,7 @@ abbrev pub sent_with : List (Option Footing) → Call → Reply → Option Footi
 sent_with began (Submit place ops) (Receipt n) = Some (footing_at began place)
 sent_with began call reply = None
 
--- the entry of a call with this answer, which asked for this footing
+-- the entry of a call with this reply and this footing
 abbrev pub more_light : Light → Footing → Call → Reply → Light
 more_light l f call reply =
     record {
@@ -255,13 +256,13 @@ more_light l f call reply =
       calls = l.calls ++ option_to_list (mount_call call);
     }
 
--- one call more, answered
+-- one more call, with its reply
 abbrev pub next_light : List Outcome → Light → Call → Light
 next_light os l call = more_light l (asked_on l os call) call (answer_on l os call)
 
 -- ---- for the code
 
--- what the code keeps, with the calls on mounts of which its register is
+-- the code's records, with the calls of its register of mounts
 abbrev pub light_in : Front → List MountCall → Light
 light_in f calls =
     record {
@@ -276,34 +277,34 @@ light_in f calls =
       calls = calls;
     }
 
--- a call on mounts was made, with this answer
+-- a call on mounts was made, with this reply
 pub record IsMade (old new : Register) (call : MountCall) (r : Reply) : Type 0 where
   pub reply : MountReply
   pub made : Makes old new call reply
   pub same : mount_reply reply ≡ r
 
--- a fault that is an answer
+-- a fault that is a reply
 abbrev pub IsAnswer : MountFault → Type 0
 IsAnswer NoMemory = ⊥
 IsAnswer fault = Unit {0}
 
--- the answer to a refused call on mounts
+-- the reply to a refused call on mounts
 abbrev pub Refuses : {E : Type 0} → MountFault → Result Reply E → Type 0
 Refuses fault (Ok r) = IsAnswer fault × (r ≡ Refused (mount_fault fault))
 Refuses fault (Err e) = Unit {0}
 
--- one entry more, whichever calls on mounts the register is of
+-- one more entry, for any calls of the register of mounts
 pub record Tells (os : List Outcome) (call : Call) (old new : Course) : Type 0 where
   pub calls : (calls : List MountCall) → IsOf calls old.front.mounts → IsOf (calls ++ option_to_list (mount_call call)) new.front.mounts
   pub light : (calls : List MountCall) → IsOf calls old.front.mounts → light_in new.front (calls ++ option_to_list (mount_call call)) ≡ next_light os (light_in old.front calls) call
   pub reply : (calls : List MountCall) → IsOf calls old.front.mounts → new.replies.items ≡ old.replies.items ++ answer_on (light_in old.front calls) os call ∷ []
 
--- the entries so far are those of a log over so many domains
+-- the entries so far are those of a log over this many domains
 abbrev pub empty_light : ℕ → Light
 empty_light domains =
     record { began = []; sent = []; chains = []; closed = []; spent = []; marks = []; decided = 0; devices = domains; calls = [] }
 
--- the answers to calls, one after another
+-- the replies to calls, one after another
 abbrev pub answers_on : List Outcome → Light → List Call → List Reply
 answers_on os l [] = []
 answers_on os l (call ∷ calls) = answer_on l os call ∷ answers_on os (next_light os l call) calls

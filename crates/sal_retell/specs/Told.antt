@@ -1,4 +1,4 @@
--- The answers that follow from the entries of a log and the outcomes of its submissions alone, without data.
+-- The replies that follow from the entries of a log and the outcomes of its submissions, without data.
 use Rattle.std.specs.Prelude.{◌≡◌, Bool, true, false, List, if◌then◌else◌, map}
 use Rattle.sal_history.specs.declared.call.Call.{Call}
 use Rattle.sal_history.specs.declared.call.Call.TheVariants.{Begin, OpenChain, ChainBegin, CloseChain, Submit, Cancel, Settle, Pump, Mount, Unmount, MountAt, Mark, After}
@@ -9,8 +9,8 @@ use Rattle.sal_history.specs.History.{sents}
 use Rattle.sal_retell.specs.declared.retold.Retold.{Retold}
 use Rattle.sal_retell.specs.Light.{sent_on}
 
--- The calls whose answers are retold. Those of listeners, of RPCs and notifications, and of upgrades are not: what a batch has, which client gets a
--- request, and whether the call was refused.
+-- The calls with such replies. Those of listeners, of RPCs and notifications, and of upgrades have none: the changes of a batch, which client gets
+-- a request, and whether the call was refused need data.
 abbrev pub is_told : Call → Bool
 is_told (Begin domain mode) = true
 is_told (OpenChain domain) = true
@@ -27,14 +27,14 @@ is_told (Mark mark) = true
 is_told (After mark) = true
 is_told call = false
 
--- the answer to a call, or `Nothing` for the others
+-- the reply to a call, or `Nothing` for the others
 abbrev pub told : Call → Reply → Reply
 told call reply = if is_told call then reply else Nothing
 
 abbrev pub told_in : Answered → Reply
 told_in a = told a.entry.call a.reply
 
--- the answers of a log, and the base of each submission without its trees
+-- the replies of a log, and the base of each submission without its trees
 pub record IsRetold (answered : List Answered) (r : Retold) : Type 0 where
   pub replies : r.replies.items ≡ map told_in answered
   pub sent : r.sent.items ≡ map sent_on (sents answered)

@@ -1,4 +1,4 @@
-//! What an entry is answered, by what is kept of those before it.
+//! The reply to an entry, from the records of those before it.
 ghost use Rattle.std.specs.Prelude.{◌≡◌, [], None, IfOk, List};
 ghost use Rattle.sal_history.specs.Services.{mount_call};
 ghost use Rattle.std.specs.Option.{option_copied};
@@ -12,17 +12,17 @@ ghost use Rattle.sal_retell.specs.Light as spec;
 use crate::front::{Footing, Front};
 use crate::queries::{
     commits_of, domain_on, failing, front_of, has, has_number, is_unspent, last_begun,
-    last_receipt, later_than, outcome_by, sent_by, sent_of,
+    last_receipt, later_than, outcome_by, outcome_of, sent_as, sent_by, sent_of,
 };
 use sal_history::{Call, Reply};
 use sal_rows::{CallFault, Outcome};
 use sal_types::{Duplicate, NoMemory};
 use std::alloc::Global;
 
-/// How many submissions are pending at most.
+/// The largest number of pending submissions.
 const MAX_PENDING: usize = 4096;
 
-// The answer that begins a transaction on the commit, if the domain is live.
+// The reply that begins a transaction on the commit, if the domain is live.
 fn begun(live: bool, domain: u32, commit: u64) -> Reply
     ensures { result ≡ spec.begun_on live domain commit }
 {
@@ -41,7 +41,7 @@ fn no_domain(id: u32) -> Reply
     }
 }
 
-// A refusal, or this answer.
+// A refusal, or this reply.
 fn refused_or(fault: Option<CallFault>, good: Reply) -> Reply
     ensures { result ≡ refused_or fault good }
 {
@@ -63,7 +63,7 @@ fn settled(footing: Option<Footing>, outcome: Option<&Outcome>) -> Result<Reply,
     }
 }
 
-// Up to which receipt all are decided after a settle.
+// The receipt up to which all are decided after a settle.
 fn settled_upto(receipt: u64, decided: usize, sent: usize) -> usize
     ensures { result ≡ spec.settled_upto receipt decided sent }
 {
@@ -118,7 +118,7 @@ impl Front {
         }
     }
 
-    /// The base of the transaction that the call asks for.
+    /// The base of the transaction that the call begins.
     pub(crate) fn asked_on(&self, outcomes: &[Outcome], call: &Call) -> Footing
         ensures { result ≡ spec.asked_on (spec.light_in self.now []) outcomes.now call.now }
     {
@@ -133,7 +133,7 @@ impl Front {
         }
     }
 
-    // Why the chain begins no transaction, beside what its domain is.
+    // Why no transaction begins in the chain, for a live domain or not.
     fn refusal_on(&self, outcomes: &[Outcome], chain: u64, live: bool) -> Option<CallFault>
         ensures { result ≡ spec.refusal_with (spec.light_in self.now []) outcomes.now live chain }
     {
@@ -213,9 +213,8 @@ impl Front {
         ensures { IfOk result (λ r. r ≡ spec.settled_in (spec.light_in self.now []) outcomes.now receipt) }
     {
         let decided = settled_upto(receipt, self.decided, self.sent.len());
-        let index = receipt.saturating_sub(1) as usize;
-        let outcome = outcome_by(front_of(outcomes, decided), index);
-        settled(sent_by(&self.sent, index), outcome)
+        let outcome = outcome_of(front_of(outcomes, decided), receipt);
+        settled(sent_as(&self.sent, receipt), outcome)
     }
 
     fn pump(&self, outcomes: &[Outcome]) -> Result<Reply, NoMemory>
@@ -242,7 +241,7 @@ impl Front {
         }
     }
 
-    /// The answer to a call that is not on mounts, or `Nothing` if the answer needs data.
+    /// The reply to a call that is not on mounts, or `Nothing` if the reply needs data.
     pub(crate) fn answer(
         &self,
         outcomes: &[Outcome],

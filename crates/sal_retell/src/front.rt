@@ -1,4 +1,4 @@
-//! What is kept of the entries so far.
+//! The records of the entries so far.
 ghost use Rattle.std.specs.Prelude.{◌≡◌, ◌++◌, [], OnOk, length};
 ghost use Rattle.std.specs.Option.{option_to_list};
 ghost use Rattle.sal_history.specs.History.{opened_chain};
@@ -18,7 +18,7 @@ pub struct Footing {
     pub chain: Option<u64>,
 }
 
-/// The base of each entry's transaction, and of each receipt's; the domains of the chains; the chains that were closed, the places of transactions
+/// The base of each entry's transaction, and of each receipt's; the domains of the chains; the chains that were closed, the indexes of transactions
 /// that were spent, and the marks; how many receipts are decided; and the mounts.
 #[derive(Drop)]
 pub struct Front {
@@ -41,7 +41,7 @@ fn append_some<T: Drop>(list: &mut Vec<T>, item: Option<T>) -> Result<(), NoMemo
     }
 }
 
-// The place of the transaction that the call spent.
+// The index of the transaction that the call spent.
 fn spent_by(call: &Call, reply: &Reply) -> Option<u64>
     ensures { result ≡ spec.spent_by call.now reply.now }
 {
@@ -136,7 +136,7 @@ fn decided_after(call: &Call, decided: usize, sent: usize) -> usize
 }
 
 impl Front {
-    /// No entry, over so many domains.
+    /// No entries, over this many domains.
     pub(crate) fn new(alloc: Global, domains: u32) -> Front
         ensures lists { spec.light_in result [] ≡ record { began = []; sent = []; chains = []; closed = []; spent = []; marks = []; decided = 0; devices = domains; calls = [] } }
         ensures mounts { IsOf [] result.mounts }
@@ -153,7 +153,7 @@ impl Front {
         }
     }
 
-    // The submission, and how many are decided then.
+    // The submission, and how many are then decided.
     fn note_sent(&mut self, call: &Call, reply: &Reply) -> Result<(), NoMemory>
         ensures { OnOk result ((self.new.sent.items ≡ self.old.sent.items ++ option_to_list (spec.sent_with self.old.began.items call.now reply.now)) × (self.new.began.items ≡ self.old.began.items) × (self.new.chains.items ≡ self.old.chains.items) × (self.new.closed.items ≡ self.old.closed.items) × (self.new.spent.items ≡ self.old.spent.items) × (self.new.marks.items ≡ self.old.marks.items) × (self.new.mounts ≡ self.old.mounts) × (self.new.decided ≡ spec.decided_after call.now self.old.decided (length self.old.sent.items))) }
     {
@@ -162,7 +162,7 @@ impl Front {
         append_some(&mut self.sent, sent)
     }
 
-    /// One entry more, of this call with this answer, which asked for the footing. The mounts know of it already.
+    /// Adds one entry, of this call with this reply and this footing. The mounts have the call already.
     pub(crate) fn note(
         &mut self,
         footing: Footing,

@@ -1,18 +1,19 @@
-//! The answers of a log, from its entries and the outcomes of its submissions, without data.
+//! The replies of a log, from its entries and the outcomes of its submissions, without data.
 //!
 //! | item | what it is |
 //! |---|---|
-//! | `retell`, `Retold` | the answers to the entries of a log, and on what each submission is based |
+//! | `retell`, `Retold` | the replies to the entries of a log, and the base of each submission |
 //!
-//! A log has no answers, and the answers follow from the data of all transactions (`sal_history`). If the outcomes of the submissions are known, the other
-//! answers need no data: on which commit or pending submission a transaction is based, receipts, chains, what a settle or a pump answers, mounts and marks
-//! (`specs/Told`). The answers to calls of listeners, of RPCs and notifications, and to upgrades are left out.
+//! A log has no replies; they follow from the data of all transactions (`sal_history`). If the outcomes of the submissions are known, most other
+//! replies need no data: the bases of transactions, receipts, chains, the results of settles and pumps, mounts and marks
+//! (`specs/Told`). The replies to calls of listeners, of RPCs and notifications, and to upgrades are left out.
 //!
 //! ```
 //! let retold = retell(alloc, domains, hub.log(), hub.outcomes())?;
 //! ```
 //!
-//! Cost: for a begin, a look at each submission; for a submit, a cancel or the begin of a chain's transaction, a look at each entry of its kind before.
+//! Cost: for a begin, a look at each submission; for a submit, a cancel or the begin of a chain's transaction, a look at each entry of its kind
+//! before.
 #![tactic(auto)]
 
 mod answers;

@@ -1,6 +1,7 @@
-//! What is asked of the entries so far.
-ghost use Rattle.std.specs.Prelude.{◌≡◌, ◌-◌, ◌&&◌, ◌∷◌, [], None, Some, if◌then◌else◌, not, slice_get, take, option_and_then, unwrap_or};
+//! Look-ups in the entries so far.
+ghost use Rattle.std.specs.Prelude.{◌≡◌, ◌&&◌, ◌∷◌, [], None, Some, if◌then◌else◌, not, slice_get, take, option_and_then, unwrap_or};
 ghost use Rattle.std.specs.Option.{option_copied, option_or};
+ghost use Rattle.sal_history.specs.Numbered.{numbered};
 ghost use Rattle.sal_history.specs.Submissions.{is_done as is_done_spec, last_from};
 ghost use Rattle.sal_retell.specs.Light as spec;
 
@@ -46,7 +47,7 @@ fn begins_on(chain: u64, began: &Option<Footing>) -> bool
     }
 }
 
-// One where the submission is a commit of the domain.
+// One if the submission is a commit of the domain.
 fn one_if(domain: u32, footing: &Footing, outcome: &Outcome) -> u64
     ensures { result ≡ spec.commits_of domain (footing.now ∷ []) (outcome.now ∷ []) }
 {
@@ -68,14 +69,14 @@ pub(crate) fn commits_of(domain: u32, sent: &[Footing], done: &[Outcome]) -> u64
     count
 }
 
-// The submission is of the chain, and was decided as something else than done.
+// The submission is of the chain, and its outcome is not done.
 fn is_failed(chain: u64, footing: &Footing, outcome: &Outcome) -> bool
     ensures { result ≡ (spec.is_on chain footing.now && not (is_done_spec outcome.now)) }
 {
     is_on(chain, footing) && !is_done(outcome)
 }
 
-/// The first receipt of the chain that was decided as something else than done.
+/// The first receipt of the chain with an outcome other than done.
 pub(crate) fn failing(chain: u64, sent: &[Footing], done: &[Outcome]) -> Option<u64>
     ensures { result ≡ spec.failing_on 1 chain sent.now done.now }
 {
@@ -87,7 +88,7 @@ pub(crate) fn failing(chain: u64, sent: &[Footing], done: &[Outcome]) -> Option<
     None
 }
 
-// The number, where the test holds, or else the last one before.
+// The number if the test holds, or else the last one before.
 fn later(test: bool, n: u64, last: Option<u64>) -> Option<u64>
     ensures { result ≡ option_or (if test then Some n else None) last }
 {
@@ -105,7 +106,7 @@ pub(crate) fn last_receipt(chain: u64, sent: &[Footing]) -> Option<u64>
     last
 }
 
-/// The place of the entry that began the chain's last transaction.
+/// The index of the entry that began the chain's last transaction.
 pub(crate) fn last_begun(chain: u64, began: &[Option<Footing>]) -> Option<u64>
     ensures { result ≡ last_from 0 (spec.begins_on chain) began.now }
 {
@@ -134,13 +135,23 @@ pub(crate) fn is_unspent(spent: &[u64], begun: Option<u64>) -> bool
     }
 }
 
+/// The footing of the receipt. The receipt 0 is of none.
+pub(crate) fn sent_as(sent: &[Footing], receipt: u64) -> Option<Footing>
+    ensures { result ≡ numbered sent.now receipt }
+{
+    if receipt == 0 {
+        return None;
+    }
+    sent.get(receipt as usize - 1).copied()
+}
+
 /// The footing of the receipt, if there is one.
 pub(crate) fn sent_of(sent: &[Footing], receipt: Option<u64>) -> Option<Footing>
-    ensures { result ≡ option_and_then (λ n. slice_get sent.now (n - 1)) receipt }
+    ensures { result ≡ option_and_then (λ n. numbered sent.now n) receipt }
 {
     match receipt {
         None => None,
-        Some(n) => sent.get(n.saturating_sub(1) as usize).copied(),
+        Some(n) => sent_as(sent, n),
     }
 }
 
@@ -158,11 +169,24 @@ pub(crate) fn outcome_by(outcomes: &[Outcome], index: usize) -> Option<&Outcome>
     outcomes.get(index)
 }
 
-/// The domain of the chain.
-pub(crate) fn domain_on(chains: &[u32], chain: u64) -> u32
-    ensures { result ≡ unwrap_or (slice_get chains.now (chain - 1)) 0 }
+/// The outcome of the receipt. The receipt 0 has none.
+pub(crate) fn outcome_of(outcomes: &[Outcome], receipt: u64) -> Option<&Outcome>
+    ensures { option_copied result ≡ numbered outcomes.now receipt }
 {
-    match chains.get(chain.saturating_sub(1) as usize) {
+    if receipt == 0 {
+        return None;
+    }
+    outcomes.get(receipt as usize - 1)
+}
+
+/// The domain of the chain, or 0 if there is none.
+pub(crate) fn domain_on(chains: &[u32], chain: u64) -> u32
+    ensures { result ≡ unwrap_or (numbered chains.now chain) 0 }
+{
+    if chain == 0 {
+        return 0;
+    }
+    match chains.get(chain as usize - 1) {
         Some(domain) => *domain,
         None => 0,
     }

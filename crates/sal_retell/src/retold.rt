@@ -1,4 +1,4 @@
-//! The answers of a log, from its entries and the outcomes of its submissions.
+//! The replies of a log, from its entries and the outcomes of its submissions.
 ghost use Rattle.std.specs.Prelude.{◌≡◌, ◌++◌, [], IfOk, OnOk, List, length};
 ghost use Rattle.std.specs.Option.{option_to_list};
 ghost use Rattle.sal_mount.specs.declared.call.MountCall.{MountCall};
@@ -16,21 +16,21 @@ use sal_rows::Outcome;
 use sal_types::{NoMemory, append};
 use std::alloc::Global;
 
-/// The answers to the entries of a log, and on what each submission is based.
+/// The replies to the entries of a log, and the base of each submission.
 #[derive(Drop)]
 pub struct Retold {
     pub sent: Vec<Footing>,
     pub replies: Vec<Reply>,
 }
 
-/// What is kept of the entries so far, and the answers to them.
+/// The records of the entries so far, and the replies to them.
 #[derive(Drop)]
 pub struct Course {
     pub front: Front,
     pub replies: Vec<Reply>,
 }
 
-// The answer to the call. The mounts have the call then.
+// The reply to the call. The mounts then have the call.
 fn reply_to(
     front: &mut Front,
     outcomes: &[Outcome],
@@ -50,7 +50,7 @@ fn reply_to(
 }
 
 impl Course {
-    // One entry more.
+    // Adds one entry.
     fn tell(&mut self, outcomes: &[Outcome], call: &Call) -> Result<(), NoMemory>
         ensures { OnOk result (spec.Tells outcomes.now call.now self.old self.new) }
     {
@@ -61,7 +61,7 @@ impl Course {
     }
 }
 
-// The course of a log over so many domains, with these outcomes.
+// The course of a log over this many domains, with these outcomes.
 fn course_of(
     alloc: Global,
     domains: u32,
@@ -80,9 +80,9 @@ fn course_of(
     Ok(course)
 }
 
-/// The answers to the entries of a log over so many domains, whose submissions have these outcomes. It fails only where memory runs out.
+/// The replies to the entries of a log over this many domains, whose submissions have these outcomes. It fails only if memory runs out.
 ///
-/// The answers are those of each world with as many domains in which the log gives these outcomes: no data is needed to know them.
+/// The replies are those of each world with as many domains in which the log gives these outcomes: they need no data.
 pub fn retell(
     alloc: Global,
     domains: u32,

@@ -1,4 +1,4 @@
-//! The calls on mounts, made again.
+//! The calls on mounts, applied again.
 ghost use Rattle.std.specs.Prelude.{◌≡◌, IfOk, Ok};
 ghost use Rattle.sal_mount.specs.declared.call.MountCall.TheVariants as asked;
 ghost use Rattle.sal_history.specs.declared.reply.Reply.TheVariants.{Refused};
@@ -9,7 +9,7 @@ use sal_mount::{MountFault, Mounts};
 use sal_rows::CallFault;
 use sal_types::{NoMemory, Path};
 
-// A refusal, or want of memory.
+// A refusal, or `NoMemory`.
 fn refused(fault: MountFault) -> Result<Reply, NoMemory>
     ensures { spec.Refuses fault result }
 {

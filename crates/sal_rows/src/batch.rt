@@ -1,9 +1,9 @@
-//! What a listener is given.
+//! The snapshots and batches of listeners.
 use crate::change::{CandidateKind, ChangeList};
 use crate::rows::Rows;
 use sal_types::Seq;
 
-/// What a listener is given when it is opened: the rows at its path and below it, and the number of the commit that they
+/// The snapshot that a listener gets when it is opened: the rows at and below its path, and the number of the commit that they
 /// are of.
 #[derive(Debug, Drop)]
 pub struct Opened {
@@ -11,8 +11,8 @@ pub struct Opened {
     pub rows: Rows,
 }
 
-/// What a listener is given later: of each commit after `from`, up to and including `to`, what changed at its path and
-/// below it. A commit that changed nothing there has no part.
+/// A batch: for each commit after `from`, up to and including `to`, the changes at and below the listener's path. A commit
+/// that changed nothing there has no part.
 #[derive(Debug, Drop)]
 pub struct Batch {
     pub from: u64,
@@ -20,7 +20,7 @@ pub struct Batch {
     pub lists: Seq<Part>,
 }
 
-/// What one commit changed, and how the listened node itself changed.
+/// The changes of one commit, and how the listened node itself changed.
 #[derive(Debug, Drop)]
 pub struct Part {
     pub commit: u64,

@@ -1,8 +1,8 @@
 //! How a tree differs from the one before it.
 use sal_types::{Cell, Path, Seq};
 
-/// A path at which two trees differ, with the cell that stands there before and the one after, or none. MD-SAL has it as
-/// `dataBefore` and `dataAfter` of a `DataTreeCandidateNode`.
+/// A path at which two trees differ, with the cells before and after, or none. They are `dataBefore` and `dataAfter` of MD-SAL's
+/// `DataTreeCandidateNode`.
 #[derive(Debug, Drop)]
 pub struct Change {
     pub path: Path,
@@ -15,20 +15,20 @@ pub type ChangeList = Seq<Change>;
 
 /// How the node at a path changed from one tree to the next: the `ModificationType` of MD-SAL's `DataTreeCandidate`.
 ///
-/// A leaf, an entry of a list or leaf-list and a presence container have a row of their own. Any other container, a whole
+/// A leaf, an entry of a list or leaf-list and a presence container have their own row. Any other container, a whole
 /// list and the root have none.
 #[derive(Clone, Copy, Debug, PartialEq, Eq)]
 pub enum CandidateKind {
-    /// Nothing at the node or below it changed.
+    /// No change at or below the node.
     Unmodified,
-    /// The node's own row came, or its cell changed.
+    /// The node's own row was added, or its cell changed.
     Write,
-    /// The node's own row went.
+    /// The node's own row was removed.
     Delete,
     /// Only rows below the node changed.
     SubtreeModified,
-    /// A node without a row of its own was absent, and is present.
+    /// A node without its own row was absent, and is present.
     Appeared,
-    /// A node without a row of its own was present, and is absent.
+    /// A node without its own row was present, and is absent.
     Disappeared,
 }

@@ -1,4 +1,4 @@
-//! Worked examples of the definitions of changes and batches. Each function does nothing; its contract says what the
+//! Worked examples of the definitions of changes and batches. Each function does nothing; its contract states what the
 //! definitions give, and the proof computes it.
 ghost use Rattle.std.specs.Prelude.{◌≡◌, Some, None, true, false, [], ◌∷◌};
 ghost use Rattle.sal_types.specs.declared.value.Cell.TheVariants.{Mark};
@@ -9,7 +9,7 @@ ghost use Rattle.sal_rows.specs.Examples.{depot, name, item, code, box, a, b, ma
 ghost use Rattle.sal_rows.specs.ChangeExamples.{text, changed, only, changes_by, kind_by, trees_of};
 ghost use Rattle.sal_rows.specs.Patch.{with_changes};
 
-/// A leaf whose value changed, one that came, one that went: each with both cells, in path order.
+/// A leaf whose value changed, one that was added, one that was removed: each with both cells, in path order.
 pub fn what_changes_are()
     ensures changed { changes_by (leaf a "1" ∷ []) (put Config a (leaf a "2" ∷ []) ∷ []) box ≡ changed a (text "1") (text "2") ∷ [] }
     ensures came { changes_by (leaf a "1" ∷ []) (put Config b (leaf b "2" ∷ []) ∷ []) box ≡ changed b None (text "2") ∷ [] }
@@ -17,7 +17,7 @@ pub fn what_changes_are()
     ensures together { changes_by (leaf a "1" ∷ []) (put Config b (leaf b "2" ∷ []) ∷ delete Config a ∷ []) box ≡ changed a (text "1") None ∷ changed b None (text "2") ∷ [] }
 {}
 
-/// A delete of a subtree reports each row that went, and not the top one alone.
+/// A delete of a subtree reports each removed row, and not the top one only.
 pub fn a_deleted_subtree()
     ensures { changes_by (mark depot ∷ leaf name "n" ∷ mark item ∷ []) (delete Config depot ∷ []) [] ≡ changed depot (Some Mark) None ∷ changed name (text "n") None ∷ changed item (Some Mark) None ∷ [] }
 {}
@@ -30,7 +30,7 @@ pub fn an_equal_rewrite()
     ensures kind { kind_by true (leaf a "o" ∷ []) (put Config a (leaf a "o" ∷ []) ∷ []) a ≡ Unmodified }
 {}
 
-/// A commit that touches nothing under the path, or the other store alone, changes nothing there.
+/// A commit that touches nothing under the path, or only the other store, changes nothing there.
 pub fn a_change_elsewhere()
     ensures beside { changes_by (leaf a "1" ∷ []) (put Config b (leaf b "2" ∷ []) ∷ []) a ≡ [] }
     ensures other_store { changes_by (leaf a "1" ∷ []) (put Oper a (leaf a "2" ∷ []) ∷ []) a ≡ [] }
@@ -45,7 +45,7 @@ pub fn kinds_of_a_leaf()
     ensures nothing { kind_by true (leaf a "1" ∷ []) (put Config b (leaf b "2" ∷ []) ∷ []) a ≡ Unmodified }
 {}
 
-/// The kinds of a presence container. Its own row is a mark, which has no other value.
+/// The kinds of a presence container. Its own row is a mark, which has only one value.
 pub fn kinds_of_a_presence_container()
     ensures came { kind_by true [] (put Config depot (mark depot ∷ leaf name "n" ∷ []) ∷ []) depot ≡ Write }
     ensures went { kind_by true (mark depot ∷ leaf name "n" ∷ []) (delete Config depot ∷ []) depot ≡ Delete }
@@ -53,7 +53,7 @@ pub fn kinds_of_a_presence_container()
     ensures nothing { kind_by true (mark depot ∷ []) (put Config depot (mark depot ∷ []) ∷ []) depot ≡ Unmodified }
 {}
 
-/// The kinds of a container without presence, which has no row of its own.
+/// The kinds of a container without presence, which does not have its own row.
 pub fn kinds_of_a_container()
     ensures appeared { kind_by false [] (put Config a (leaf a "1" ∷ []) ∷ []) box ≡ Appeared }
     ensures disappeared { kind_by false (leaf a "1" ∷ []) (delete Config a ∷ []) box ≡ Disappeared }
@@ -63,7 +63,7 @@ pub fn kinds_of_a_container()
     ensures root { kind_by false [] (put Config a (leaf a "1" ∷ []) ∷ []) [] ≡ Appeared }
 {}
 
-/// The kinds of a list entry, which goes too where what stands above it goes.
+/// The kinds of a list entry, which is also deleted by a delete of an ancestor.
 pub fn kinds_of_an_entry()
     ensures came { kind_by true (mark depot ∷ []) (put Config item (mark item ∷ leaf code "c" ∷ []) ∷ []) item ≡ Write }
     ensures went { kind_by true (mark depot ∷ mark item ∷ leaf code "c" ∷ []) (delete Config item ∷ []) item ≡ Delete }
@@ -72,17 +72,17 @@ pub fn kinds_of_an_entry()
     ensures nothing { kind_by true (mark depot ∷ mark item ∷ []) (merge Config item (mark item ∷ []) ∷ []) item ≡ Unmodified }
 {}
 
-/// A batch over three commits, of which the second changes nothing under the path: it has no part.
+/// A batch over three commits. The second changes nothing under the path, so it has no part.
 pub fn a_batch_over_three_commits()
     ensures { batch false (trees_of [] ((put Config a (leaf a "1" ∷ []) ∷ []) ∷ (put Config depot (mark depot ∷ []) ∷ []) ∷ (delete Config a ∷ []) ∷ [])) box 0 3 ≡ record { from = 0; to = 3; lists = only 1 Appeared (changed a None (text "1")) (only 3 Disappeared (changed a (text "1") None) []) } }
 {}
 
-/// Two commits that undo one another: each has its part, and they are not joined.
+/// Two commits that undo one another: each has its part, and the parts are not merged.
 pub fn a_change_that_is_undone()
     ensures { batch true (trees_of (leaf a "1" ∷ []) ((put Config a (leaf a "2" ∷ []) ∷ []) ∷ (put Config a (leaf a "1" ∷ []) ∷ []) ∷ [])) a 0 2 ≡ record { from = 0; to = 2; lists = only 1 Write (changed a (text "1") (text "2")) (only 2 Write (changed a (text "2") (text "1")) []) } }
 {}
 
-/// A listener that is opened between two commits: it is given the rows there, and later only what came after. With no
+/// A listener that is opened between two commits gets the rows there, and later only the later changes. With no
 /// commit since, the batch is empty.
 pub fn a_listener_between_two_commits()
     ensures opened { opened (trees_of [] ((put Config a (leaf a "1" ∷ []) ∷ []) ∷ (put Config a (leaf a "2" ∷ []) ∷ []) ∷ [])) a 1 ≡ record { version = 1; rows = leaf a "1" ∷ [] } }

@@ -1,4 +1,4 @@
-//! How a submission is decided, and how a call is refused.
+//! The outcomes of submissions, and why calls are refused.
 use sal_types::{Duplicate, NoMemory, Path, Store};
 use thiserror::Error;
 
@@ -11,11 +11,11 @@ pub enum Mode {
     Wo,
     /// Read and write.
     Rw,
-    /// Read and write; what it read is checked when it is submitted.
+    /// Read and write; its submission checks its reads.
     Checked,
 }
 
-/// How a path differs at the ends of a span over which it did not stay as it was.
+/// How a path differs at the ends of a span over which it is not unchanged.
 #[derive(Clone, Copy, Debug, PartialEq, Eq)]
 pub enum ClashKind {
     /// Present at both ends, and touched between.
@@ -26,11 +26,11 @@ pub enum ClashKind {
     Deleted,
 }
 
-/// A structural rule that is broken, with the number of the node at which it is stated. Rules are ordered as they stand
+/// A structural rule that is broken, with the number of the node that states it. Rules are ordered as the variants
 /// here, and then by number.
 #[derive(Clone, Copy, Debug, PartialEq, Eq, PartialOrd, Ord)]
 pub enum Rule {
-    /// A mandatory leaf is absent, or no node of a mandatory choice is there (RFC 7950 sections 7.6.5 and 7.9.4).
+    /// A mandatory leaf is absent, or a mandatory choice has no node (RFC 7950 sections 7.6.5 and 7.9.4).
     Mandatory(u32),
     /// A list or leaf-list has too few entries (RFC 7950 section 7.7.5).
     MinElements(u32),
@@ -38,14 +38,14 @@ pub enum Rule {
     MaxElements(u32),
     /// Two entries of a list agree in all leafs of a `unique` statement (RFC 7950 section 7.8.3).
     Unique(u32),
-    /// Nodes of two cases of a choice are there (RFC 7950 section 7.9).
+    /// Two cases of a choice have nodes (RFC 7950 section 7.9).
     TwoCases(u32),
 }
 
-/// A rule that is broken, and where. Breaches are ordered by path, then by rule.
+/// A broken rule with its place. Breaches are ordered by path, then by rule.
 #[derive(Debug, Drop, PartialEq, Eq, PartialOrd, Ord)]
 pub struct Breach {
-    /// The data parent's path for `Mandatory` and `TwoCases`, and else that of the list or leaf-list.
+    /// The data parent's path for `Mandatory` and `TwoCases`, else that of the list or leaf-list.
     pub path: Path,
     pub rule: Rule,
 }
@@ -53,11 +53,11 @@ pub struct Breach {
 /// The outcome of a submission.
 #[derive(Debug, Drop, PartialEq, Eq)]
 pub enum Outcome {
-    /// It is the commit of this number; both stores changed together.
+    /// It is the commit with this number; both stores changed together.
     Done {
         commit: u64,
     },
-    /// It was refused, since a later commit of this number touched what it writes at this path.
+    /// It was refused, since a later commit touched a path that it writes or checks.
     Conflict {
         store: Store,
         path: Path,
@@ -70,8 +70,8 @@ pub enum Outcome {
         path: Path,
         rule: Rule,
     },
-    /// It was refused, since the submission of its chain with this receipt, a smaller one, was decided as something else
-    /// than done.
+    /// It was refused, since the submission of its chain with this receipt, a smaller one, has an outcome other than
+    /// done.
     ChainFailed {
         receipt: u64,
     },
@@ -82,16 +82,16 @@ pub enum Outcome {
 }
 
 /// Why a shared call was refused. After `HistoryFull` and `NoMemory` nothing has changed; after any other refusal the log
-/// has the call's entry, and nothing else changed.
+/// has one more entry, and nothing else changed.
 #[derive(Debug, Drop, PartialEq, Eq, Error)]
 pub enum CallFault {
     /// The log has 1,000,000 entries.
     #[error("the history is full")]
     HistoryFull,
-    /// As many submissions are pending as may be, 4,096.
+    /// The most submissions that may be pending, 4,096, are.
     #[error("the pipeline is full")]
     PipelineFull,
-    /// The domain is not live; to a mount: there is no such device.
+    /// The domain is not live; for a mount: the device does not exist.
     #[error("no live domain {id}")]
     NoDomain {
         id: u32,
@@ -101,10 +101,10 @@ pub enum CallFault {
     NoListener {
         id: u64,
     },
-    /// As many listeners are live as may be, 256.
+    /// The most listeners that may be live, 256, are.
     #[error("too many listeners")]
     TooManyListeners,
-    /// Nobody provides the RPC in the context or without one; or, to a withdrawal, the client does not in this context.
+    /// No client provides the RPC in the context or without one; for a withdrawal: the client does not provide it in this context.
     #[error("no provider of rpc {rpc}")]
     NoProvider {
         rpc: u32,
@@ -114,12 +114,12 @@ pub enum CallFault {
     ProviderTaken {
         rpc: u32,
     },
-    /// To an answer: the request was not handed to the client, or is answered. To a collection: the client did not make it.
+    /// For an answer: the client did not take the request, or it is answered. For a collection: the client did not make the request.
     #[error("no call {id} of this client")]
     NoCall {
         id: u64,
     },
-    /// As many notifications wait for this subscriber as may, 64. It is the one with the smallest number of those.
+    /// The most notifications that may wait for this subscriber, 64, do. It is the smallest such subscriber.
     #[error("the queue of subscriber {subscriber} is full")]
     NoteRejected {
         subscriber: u32,
@@ -137,7 +137,7 @@ pub enum CallFault {
     /// The last transaction of the chain is neither submitted nor cancelled.
     #[error("the chain's previous transaction is open")]
     PreviousOpen,
-    /// The submission of the chain with this receipt was decided as something else than done.
+    /// The submission of the chain with this receipt has an outcome other than done.
     #[error("the chain failed by receipt {receipt}")]
     ChainFailed {
         receipt: u64,
@@ -150,12 +150,12 @@ pub enum CallFault {
     /// The transaction was submitted or cancelled before.
     #[error("the transaction is spent")]
     TxSpent,
-    /// To an upgrade: it does not lead from the present version of the schema, which has this number.
+    /// For an upgrade: it does not follow the present version of the schema, which has this number.
     #[error("the schema has version {have}")]
     WrongVersion {
         have: u32,
     },
-    /// To an upgrade: the newest tree of this store would break this rule of the new version at this path.
+    /// For an upgrade: the newest tree of this store would break this rule of the new version at this path.
     #[error("the newest tree breaks a rule of the new version")]
     UpgradeBreach {
         store: Store,

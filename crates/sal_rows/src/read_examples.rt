@@ -1,4 +1,4 @@
-//! Worked examples of checked reads. Each function does nothing; its contract says what the definitions give for one history, and
+//! Worked examples of checked reads. Each function does nothing; its contract states what the definitions give for one history, and
 //! the proof computes it.
 ghost use Rattle.std.specs.Prelude.{◌≡◌, None, [], ◌∷◌, false, true};
 ghost use Rattle.sal_types.specs.declared.value.Store.TheVariants.{Config, Oper};
@@ -15,13 +15,13 @@ pub fn write_skew()
     ensures unchecked { after (leaf a "o" ∷ leaf b "o" ∷ []) ((put Config b (leaf b "x" ∷ []) ∷ []) ∷ []) 1 (put Config a (leaf a "y" ∷ []) ∷ []) ≡ None }
 {}
 
-/// A lost update: a merge of a leaf does not look at it under version rules 1, but the checked read before it does.
+/// A lost update: a merge of a leaf does not check it under version rules 1, but the checked read before it does.
 pub fn lost_update()
     ensures checked { after (leaf a "o" ∷ []) ((read Config a ∷ merge Config a (leaf a "x" ∷ []) ∷ []) ∷ []) 1 (read Config a ∷ merge Config a (leaf a "y" ∷ []) ∷ []) ≡ found 0 2 Changed 1 }
     ensures unchecked { after (leaf a "o" ∷ []) ((merge Config a (leaf a "x" ∷ []) ∷ []) ∷ []) 1 (merge Config a (leaf a "y" ∷ []) ∷ []) ≡ None }
 {}
 
-/// A read sees all at and below its path. It is refused by a commit that touched that, also where each value is the same again.
+/// A read sees all at and below its path. A commit that touched any of it is a conflict, even if each value is the same again.
 pub fn what_a_read_checks()
     ensures changed { after (leaf a "o" ∷ []) ((put Config b (leaf b "x" ∷ []) ∷ []) ∷ []) 1 (read Config box ∷ []) ≡ found 0 1 Changed 1 }
     ensures created { after [] ((put Oper a (leaf a "x" ∷ []) ∷ []) ∷ []) 1 (read Oper a ∷ []) ≡ found 0 2 Created 1 }
@@ -32,7 +32,7 @@ pub fn what_a_read_checks()
     ensures other_store { after (leaf a "o" ∷ []) ((put Oper a (leaf a "x" ∷ []) ∷ []) ∷ []) 1 (read Config a ∷ []) ≡ None }
 {}
 
-/// A read below an earlier put or delete of its own is not looked at: it sees what the transaction wrote.
+/// A read below an earlier put or delete of its transaction is not tested: it sees what the transaction wrote.
 pub fn a_covered_read()
     ensures by_a_delete { reads_from (both (leaf a "o" ∷ [])) ((put Config a (leaf a "x" ∷ []) ∷ []) ∷ []) (record { from = 0; to = 1 } ∷ []) [] (delete Config box ∷ read Config a ∷ []) ≡ None }
     ensures by_a_merge { reads_from (both (leaf a "o" ∷ [])) ((put Config a (leaf a "x" ∷ []) ∷ []) ∷ []) (record { from = 0; to = 1 } ∷ []) [] (merge Config a (leaf a "y" ∷ []) ∷ read Config a ∷ []) ≡ found 1 2 Changed 1 }
@@ -46,13 +46,13 @@ pub fn reads_are_tested_last()
     ensures first_read { after (leaf a "o" ∷ leaf b "o" ∷ []) ((put Config a (leaf a "x" ∷ []) ∷ put Config b (leaf b "x" ∷ []) ∷ []) ∷ []) 1 (read Config b ∷ read Config a ∷ []) ≡ found 0 2 Changed 1 }
 {}
 
-/// A read changes nothing: a commit of a read alone touches no path, and a read needs no parent.
+/// A read changes nothing: a commit of a single read touches no path, and a read requires no parent.
 pub fn reads_change_nothing()
     ensures untouched { after (leaf a "o" ∷ []) ((read Config box ∷ read Config a ∷ []) ∷ []) 1 (put Config a (leaf a "y" ∷ []) ∷ []) ≡ None }
     ensures parent { after (mark depot ∷ []) ((delete Config depot ∷ []) ∷ []) 1 (read Config name ∷ []) ≡ None }
 {}
 
-/// A transaction keeps each path once that it reads, and none below a kept one or below a put or delete of its own. It keeps none if
+/// A transaction records each path that it reads once, and none below a recorded path or below its own put or delete. It records none if
 /// its reads are not checked.
 pub fn what_is_recorded()
     ensures first { recorded Checked Config a [] ≡ read Config a ∷ [] }

@@ -1,4 +1,4 @@
--- What is kept of the calls on the router, by number.
+-- The routes of the calls on the router, by number.
 use Rattle.std.specs.Prelude.{◌≡◌, ℕ, zero, suc, ◌<◌, Bool, true, false, not, ◌&&◌, List, [], ◌∷◌, Option, Some, None, length, map, nat_eq, slice_get, is_some}
 use Rattle.std.specs.BTreeMap.{is_at}
 use Rattle.std.specs.Map.{lookup}
@@ -42,7 +42,7 @@ abbrev pub sent_at : List Sent → ℕ → Option Sent
 sent_at sent zero = None
 sent_at sent (suc i) = slice_get sent i
 
--- the request was handed to the client, and is not answered
+-- the client took the request, and it is not answered
 abbrev pub is_open : List Sent → ℕ → ℕ → Bool
 is_open sent client id = option_map_or (λ (s : Sent). nat_eq s.owner client && (s.handed && not (is_some s.answer))) (sent_at sent id) false
 
@@ -50,13 +50,13 @@ is_open sent client id = option_map_or (λ (s : Sent). nat_eq s.owner client && 
 abbrev pub is_by : List Sent → ℕ → ℕ → Bool
 is_by sent client id = option_map_or (λ (s : Sent). nat_eq s.by client) (sent_at sent id) false
 
--- one request is written
+-- one request is replaced
 abbrev pub written_at : (Sent → Sent) → List Sent → ℕ → List Sent
 written_at f [] i = []
 written_at f (s ∷ sent) zero = f s ∷ sent
 written_at f (s ∷ sent) (suc i) = s ∷ written_at f sent i
 
--- the request with this id is written
+-- the request with this id is replaced
 abbrev pub sent_with : (Sent → Sent) → List Sent → ℕ → List Sent
 sent_with f sent zero = sent
 sent_with f sent (suc i) = written_at f sent i
@@ -72,7 +72,7 @@ abbrev pub next_reply : Option Request → RpcReply
 next_reply None = Nothing
 next_reply (Some request) = Handed request
 
--- who made a request, and to whom it goes
+-- the client of a request, and its provider
 pub record Ends : Type 0 where
   pub by : ℕ
   pub owner : ℕ
@@ -86,12 +86,12 @@ ends_in s = record { by = s.by; owner = s.owner }
 abbrev pub request_of : ℕ × Requested → Request
 request_of w = record { id = w.0; rpc = w.1.rpc; context = w.1.context; input = w.1.input }
 
--- what is kept of one request
+-- the record of one request
 pub record IsSent (made : List Made) (id : ℕ) (s : Sent) : Type 0 where
   pub handed : s.handed ≡ is_handed made id
   pub answer : s.answer ≡ answer_to made id
 
--- the routes are kept of these calls
+-- the routes are those of these calls
 pub record IsKept (made : List Made) (r : Routes) : Type 0 where
   pub provided : (rpc : ℕ) (context : Option (List Step)) → provider_in r.providers (service rpc context) ≡ provider made rpc context
   pub ends : map ends_in r.requests ≡ map ends_of (requests made)

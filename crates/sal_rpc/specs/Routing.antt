@@ -1,4 +1,4 @@
--- Where requests go, by the calls on the router alone (`DOMRpcService`, `DOMRpcProviderService` of the MD-SAL developer guide).
+-- Where requests go, by the calls on the router (`DOMRpcService`, `DOMRpcProviderService` of the MD-SAL developer guide).
 use Rattle.std.specs.Prelude.{ℕ, Bool, true, false, not, ◌+◌, ◌&&◌, List, [], ◌∷◌, ◌++◌, zero, suc, length, Option, Some, None, is_some, if◌then◌else◌, nat_eq, slice_get}
 use Rattle.std.specs.List.{filter, filter_map, fold, list_any}
 use Rattle.std.specs.Option.{option_map_or, option_or}
@@ -16,7 +16,7 @@ pub record Asked : Type 0 where
   pub client : ℕ
   pub call : RpcCall
 
--- a call with its answer, and the client to which the request goes that it made
+-- a call with its reply, and the client to which the request goes that it made
 pub record Made : Type 0 where
   pub client : ℕ
   pub call : RpcCall
@@ -25,7 +25,7 @@ pub record Made : Type 0 where
 
 -- ---- registrations
 
--- who answers an RPC in a context
+-- the provider of an RPC in a context
 pub record Registration : Type 0 where
   pub client : ℕ
   pub rpc : ℕ
@@ -51,7 +51,7 @@ live_after live client call reply = live
 abbrev pub live : List Made → List Registration
 live made = fold (λ rs m. live_after rs m.client m.call m.reply) [] made
 
--- the client that provides the RPC in just this context
+-- the client that provides the RPC in exactly this context
 abbrev pub provider : List Made → ℕ → Option (List Step) → Option ℕ
 provider made rpc context = slice_get (filter_map (λ r. if is_for rpc context r then Some r.client else None) (live made)) 0
 
@@ -98,7 +98,7 @@ abbrev pub waiting_from : ℕ → (ℕ → Requested → Bool) → List Requeste
 waiting_from n test [] = []
 waiting_from n test (r ∷ rs) = (if test n r then (n, r) ∷ [] else []) ++ waiting_from (n + 1) test rs
 
--- what waits for the client: the requests that go to it and were not handed out, in order
+-- the waiting requests of the client: those that go to it and were not taken, in order
 abbrev pub queue : List Made → ℕ → List (ℕ × Requested)
 queue made client = waiting_from 1 (λ id r. nat_eq r.owner client && not (is_handed made id)) (requests made)
 
@@ -111,7 +111,7 @@ request_at rs (suc i) = slice_get rs i
 abbrev pub is_request : List Made → ℕ → (Requested → Bool) → Bool
 is_request made id test = option_map_or test (request_at (requests made) id) false
 
--- ---- answers
+-- ---- replies
 
 abbrev pub handed : Option (ℕ × Requested) → RpcReply
 handed None = Nothing
@@ -136,10 +136,10 @@ abbrev pub sent_to : List Made → RpcCall → Option ℕ
 sent_to made (Invoke rpc context input) = owner_of made rpc context
 sent_to made call = None
 
--- one call more, answered
+-- one call more, with its reply
 abbrev pub make : List Made → Asked → List Made
 make made a = made ++ record { client = a.client; call = a.call; reply = reply_to made a.client a.call; owner = sent_to made a.call } ∷ []
 
--- calls, each with its answer
+-- calls, each with its reply
 abbrev pub made_of : List Asked → List Made
 made_of calls = fold make [] calls

@@ -1,4 +1,4 @@
-//! The calls on the router, and what they are answered.
+//! The calls on the router, and their replies.
 use sal_rows::Rows;
 use sal_types::Path;
 use thiserror::Error;
@@ -6,7 +6,7 @@ use thiserror::Error;
 /// A call of a client on the router. RPCs are numbers of schema nodes; a context is a path, or none.
 #[derive(Drop)]
 pub enum RpcCall {
-    /// Registers the client as the one who answers the RPC in the context (`DOMRpcProviderService`).
+    /// Registers the client as the provider of the RPC in the context (`DOMRpcProviderService`).
     Provide {
         rpc: u32,
         context: Option<Path>,
@@ -47,23 +47,23 @@ pub struct Request {
 /// Why a call on the router was refused.
 #[derive(Clone, Copy, Debug, PartialEq, Eq, Error)]
 pub enum RpcFault {
-    /// Nobody provides the RPC in the context or without one; or, to a withdrawal, the client does not in this context.
+    /// No client provides the RPC in the context or without one; for a withdrawal: the client does not provide it in this context.
     #[error("no provider of rpc {rpc}")]
     NoProvider { rpc: u32 },
     /// The RPC is provided in this context already.
     #[error("rpc {rpc} has its provider")]
     ProviderTaken { rpc: u32 },
-    /// To an answer: the request was not handed to the client, or is answered. To a collection: the client did not make it.
+    /// For an answer: the client did not take the request, or it is answered. For a collection: the client did not make the request.
     #[error("no call {id} of this client")]
     NoCall { id: u64 },
     #[error("out of memory")]
     NoMemory,
 }
 
-/// The answer to a call on the router.
+/// The reply to a call on the router.
 #[derive(Drop)]
 pub enum RpcReply {
-    /// The call was done. There is nothing to answer.
+    /// The call was done; there is no other result.
     Accepted,
     /// The request has this id.
     CallMade { id: u64 },

@@ -1,5 +1,5 @@
-//! Worked examples of the router. Each function does nothing; its contract says what the definitions give for some calls, and the
-//! proof computes it. RPC 5 is the one that is asked; contexts are the paths of the nodes 1 and 2.
+//! Worked examples of the router. Each function does nothing; its contract states what the definitions give for some calls, and the
+//! proof computes it. The RPC is 5; contexts are the paths of the nodes 1 and 2.
 #![tactic(auto)]
 
 ghost use Rattle.std.specs.Prelude.{◌≡◌, [], ◌∷◌, None, Some};
@@ -8,7 +8,7 @@ ghost use Rattle.sal_rpc.specs.declared.call.RpcFault.TheVariants.{NoProvider, P
 ghost use Rattle.sal_rpc.specs.declared.call.RpcReply.TheVariants.{Accepted, CallMade, Handed, Output, Nothing, Refused};
 ghost use Rattle.sal_rpc.specs.Examples.{by, replies, rows, there};
 
-/// The registration for the exact context goes before the one without a context, which serves all others.
+/// The registration for the exact context is used before the one without a context, which serves all others.
 pub fn the_exact_context_goes_first()
     ensures { replies (by 1 (Provide 5 (Some (there 1))) ∷ by 2 (Provide 5 None) ∷ by 0 (Invoke 5 (Some (there 1)) (rows 8)) ∷ by 0 (Invoke 5 (Some (there 2)) (rows 9))
         ∷ by 1 NextCall ∷ by 2 NextCall ∷ by 1 NextCall ∷ [])
@@ -16,13 +16,13 @@ pub fn the_exact_context_goes_first()
         ∷ Handed (record { id = 1; rpc = 5; context = Some (there 1); input = rows 8 }) ∷ Handed (record { id = 2; rpc = 5; context = Some (there 2); input = rows 9 }) ∷ Nothing ∷ [] }
 {}
 
-/// A request stays with the client that received it, also after that client withdraws; the next one finds no provider.
+/// A request stays with its provider, also after that client withdraws; the next one finds no provider.
 pub fn a_withdrawal_after_a_request()
     ensures { replies (by 1 (Provide 5 None) ∷ by 0 (Invoke 5 None (rows 8)) ∷ by 1 (Withdraw 5 None) ∷ by 0 (Invoke 5 None (rows 9)) ∷ by 1 NextCall ∷ [])
         ≡ Accepted ∷ CallMade 1 ∷ Accepted ∷ Refused (NoProvider 5) ∷ Handed (record { id = 1; rpc = 5; context = None; input = rows 8 }) ∷ [] }
 {}
 
-/// Only the client that has taken a request answers it, and once.
+/// Only the client that has taken a request can answer it, and only once.
 pub fn an_answer_of_another_client()
     ensures { replies (by 1 (Provide 5 None) ∷ by 0 (Invoke 5 None (rows 8)) ∷ by 1 (Answer 1 (rows 7)) ∷ by 1 NextCall ∷ by 2 (Answer 1 (rows 7)) ∷ by 1 (Answer 1 (rows 7)) ∷ by 1 (Answer 1 (rows 6)) ∷ by 0 (Collect 1) ∷ [])
         ≡ Accepted ∷ CallMade 1 ∷ Refused (NoCall 1) ∷ Handed (record { id = 1; rpc = 5; context = None; input = rows 8 }) ∷ Refused (NoCall 1) ∷ Accepted ∷ Refused (NoCall 1) ∷ Output (rows 7) ∷ [] }
@@ -34,7 +34,7 @@ pub fn collected_before_and_behind()
         ≡ Accepted ∷ CallMade 1 ∷ Nothing ∷ Handed (record { id = 1; rpc = 5; context = None; input = rows 8 }) ∷ Accepted ∷ Output (rows 7) ∷ Output (rows 7) ∷ Refused (NoCall 1) ∷ Refused (NoCall 2) ∷ [] }
 {}
 
-/// An RPC has one provider for each context, which its own client alone withdraws.
+/// An RPC has one provider for each context, and only its own client can withdraw it.
 pub fn one_provider_for_each_context()
     ensures { replies (by 1 (Provide 5 None) ∷ by 2 (Provide 5 None) ∷ by 2 (Provide 5 (Some (there 1))) ∷ by 2 (Provide 6 None) ∷ by 2 (Withdraw 5 None) ∷ by 1 (Withdraw 5 None) ∷ by 2 (Provide 5 None) ∷ [])
         ≡ Accepted ∷ Refused (ProviderTaken 5) ∷ Accepted ∷ Accepted ∷ Refused (NoProvider 5) ∷ Accepted ∷ Accepted ∷ [] }

@@ -1,19 +1,19 @@
-//! RPC routing: who provides what in which context, where a request goes, and what it is answered.
+//! RPC routing: which client provides an RPC in which context, where a request goes, and its answer.
 //!
 //! | item | what it is |
 //! |---|---|
 //! | `Router` | the router of a broker, which a contract sees as the routes of the calls |
-//! | `RpcCall`, `RpcReply`, `RpcFault` | a call of a client on the router, what it is answered, why it is refused |
-//! | `Request` | a request, as it is handed to the client that answers it |
+//! | `RpcCall`, `RpcReply`, `RpcFault` | a call of a client on the router, its reply, why it is refused |
+//! | `Request` | a request, as its provider takes it |
 //! | `laws` | functions that do nothing, each with a law of the definitions as its contract |
 //! | `examples` | the same with worked examples |
 //!
-//! `specs/Routing` says what the calls mean, by the list of them alone. A registration is by RPC and context, or without a context; a
-//! client has it from its provide to its withdrawal. A request goes to the registration for its exact context, and else to the one
+//! `specs/Routing` defines the meaning of the calls from their list. A registration is for an RPC and a context, or without a context; a
+//! client has it from its provide to its withdrawal. A request goes to the registration for its exact context, or else to the one
 //! without a context; it stays with that client also when the registration ends. Each client takes its requests in their order, and
-//! answers each once; the client that made the request collects the answer. `specs/Routes` says what is kept of the calls, and
-//! `specs/Answers` what a call answers and leaves: whichever the calls before were, the answer that they give and the routes of one
-//! call more. A caller that keeps a log of its calls has so its answers by that log.
+//! answers each once; the client that made the request collects the answer. `specs/Routes` defines the routes of a list of calls, and
+//! `specs/Answers` the effect of a call: for any earlier calls, it returns the reply by the definition, and the routes are those of one
+//! call more. So a caller that logs its calls knows the replies from the log.
 //!
 //! ```
 //! let mut router = Router::new(alloc);
@@ -33,8 +33,8 @@
 //! | `Router::answer` | constant, no memory |
 //! | `Router::collect` | a copy of the answer |
 //!
-//! A search compares some log n contexts or numbers. The input of a request is let go with its hand-out; its ends and its answer stay
-//! in memory, as the answer may be collected again, so what is kept grows with r.
+//! A search compares some log n contexts or numbers. The input of a request is moved out when it is taken; its clients and its answer stay
+//! in memory, as the answer may be collected again, so memory grows with r.
 #![tactic(auto)]
 
 pub mod call;

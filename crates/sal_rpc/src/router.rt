@@ -20,7 +20,7 @@ use std::alloc::Global;
 use std::collections::BTreeMap;
 use std::marker::Model;
 
-/// Who provides which RPC, and the requests. A contract sees the routes of the calls.
+/// The providers of RPCs, and the requests. A contract sees the routes of the calls.
 #[derive(Drop)]
 pub struct Router {
     providers: BTreeMap<Service, u32>,
@@ -37,7 +37,7 @@ impl Model for Router {
 }
 
 impl Router {
-    /// Nobody provides anything. It takes no memory.
+    /// No providers and no requests. It takes no memory.
     pub fn new(alloc: Global) -> Router
         ensures { IsOf [] result }
     {
@@ -48,7 +48,7 @@ impl Router {
         }
     }
 
-    /// Registers the client for the RPC in the context. It is refused as `ProviderTaken` where the RPC is provided in this context.
+    /// Registers the client for the RPC in the context. Refused as `ProviderTaken` if the RPC is provided in this context.
     pub fn provide(&mut self, client: u32, rpc: u32, context: Option<Path>) -> Result<(), RpcFault>
         ensures { Answers self.old self.new client (Provide rpc context) (λ _. Accepted) result }
     {
@@ -62,7 +62,7 @@ impl Router {
         }
     }
 
-    /// Ends the client's registration. It is refused as `NoProvider` where the client does not provide the RPC in just this context.
+    /// Ends the client's registration. Refused as `NoProvider` if the client does not provide the RPC in exactly this context.
     /// It takes no memory.
     pub fn withdraw(&mut self, client: u32, rpc: u32, context: Option<Path>) -> Result<(), RpcFault>
         ensures { AnswersAlways self.old self.new client (Withdraw rpc context) (λ _. Accepted) result }
@@ -75,7 +75,7 @@ impl Router {
         Ok(())
     }
 
-    /// Makes a request, and answers its id. It is refused as `NoProvider` where nobody provides the RPC in the context or without one.
+    /// Makes a request, and returns its id. Refused as `NoProvider` if no client provides the RPC in the context or without one.
     pub fn invoke(
         &mut self,
         alloc: Global,
@@ -127,7 +127,7 @@ impl Router {
         }
     }
 
-    /// Answers a request. It is refused as `NoCall` where the request was not handed to the client, or is answered. It takes no memory.
+    /// Answers a request. Refused as `NoCall` if the client did not take the request, or it is answered. It takes no memory.
     pub fn answer(&mut self, client: u32, id: u64, output: Rows) -> Result<(), RpcFault>
         ensures { AnswersAlways self.old self.new client (Answer id output) (λ _. Accepted) result }
     {
@@ -138,7 +138,7 @@ impl Router {
         Ok(())
     }
 
-    /// The answer to a request that the client made, if it has one. It is refused as `NoCall` where the client did not make it.
+    /// The answer to a request that the client made, if it has one. Refused as `NoCall` if the client did not make it.
     pub fn collect(&self, client: u32, id: u64) -> Result<Option<Rows>, RpcFault>
         ensures { Answers self.now self.now client (Collect id) output result }
     {
@@ -198,7 +198,7 @@ fn anywhere(providers: &BTreeMap<Service, u32>, rpc: u32) -> Option<u32>
     providers.get(&service).copied()
 }
 
-// Puts the request at the end of its owner's queue.
+// Appends the request to its owner's queue.
 fn send(
     alloc: Global,
     queues: &mut BTreeMap<u32, Queue>,
@@ -216,7 +216,7 @@ fn send(
     Ok(())
 }
 
-// Takes the first request out of the client's queue.
+// Takes the first request from the client's queue.
 fn next_of(queues: &mut BTreeMap<u32, Queue>, client: u32) -> Option<Request>
     ensures first { result ≡ slice_get (queue_in queues.old.entries client) 0 }
     ensures rest { (c : ℕ) → queue_in queues.new.entries c ≡ (if nat_eq client c then drop 1 (queue_in queues.old.entries c) else queue_in queues.old.entries c) }
@@ -227,7 +227,7 @@ fn next_of(queues: &mut BTreeMap<u32, Queue>, client: u32) -> Option<Request>
     }
 }
 
-// The request is handed out now.
+// Marks the request as taken.
 fn hand_out(requests: &mut Vec<Sent>, id: u64)
     ensures { requests.new.items ≡ sent_with hand requests.old.items id }
 {
@@ -237,7 +237,7 @@ fn hand_out(requests: &mut Vec<Sent>, id: u64)
     requests[id as usize - 1].handed = true;
 }
 
-// The request is answered now.
+// Sets the answer of the request.
 fn put_answer(requests: &mut Vec<Sent>, id: u64, output: Rows)
     ensures { requests.new.items ≡ sent_with (answered output) requests.old.items id }
 {

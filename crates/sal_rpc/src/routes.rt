@@ -1,4 +1,4 @@
-//! What the router keeps of registrations and requests.
+//! The router's registrations and requests.
 ghost use Rattle.std.specs.Prelude.{◌≡◌, [], ◌∷◌, ◌++◌, drop, slice_get, IfOk, OnErr, OnOk};
 
 use crate::call::Request;
@@ -15,7 +15,7 @@ pub(crate) struct Service {
     pub(crate) context: Option<Path>,
 }
 
-/// A request that was made: by whom, to whom it goes, whether it was handed out, and its answer.
+/// A request: its client, its provider, whether it was taken, and its answer.
 #[derive(Drop)]
 pub(crate) struct Sent {
     pub(crate) by: u32,
@@ -40,7 +40,7 @@ impl Model for Queue {
 }
 
 impl Queue {
-    /// One request waits.
+    /// A queue of one request.
     pub(crate) fn one(alloc: Global, request: Request) -> Result<Queue, NoMemory>
         ensures { IfOk result (λ q. q ≡ request ∷ []) }
     {
@@ -49,7 +49,7 @@ impl Queue {
         Ok(Queue { list })
     }
 
-    /// Puts the request at the end.
+    /// Appends the request.
     pub(crate) fn push(&mut self, request: Request) -> Result<(), NoMemory>
         ensures ok { OnOk result (self.new ≡ self.old ++ request ∷ []) }
         ensures err { OnErr result (self.new ≡ self.old) }

@@ -27,7 +27,7 @@ pub fn mandatory_in_entries()
     ensures choice { breach example.hosts Config (example.host_with (example.leaf_of_host 2 ∷ example.item_of_host 1 ∷ [])) ≡ example.broken_at example.host (Mandatory 4) }
 {}
 
-/// Below containers: nothing is demanded of the empty tree, nor of a top-level leaf.
+/// Below containers: nothing is mandatory in the empty tree, nor at the top.
 pub fn mandatory_below_containers()
     ensures absent { breach example.tops Config [] ≡ None }
     ensures present { breach example.tops Config (example.held (Node 0 ∷ Node 2 ∷ Node 3 ∷ []) 1 ∷ []) ≡ example.broken_at (Node 0 ∷ []) (Mandatory 1) }

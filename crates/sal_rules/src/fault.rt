@@ -2,13 +2,13 @@
 use sal_types::{NoMemory, Path};
 use thiserror::Error;
 
-/// Why a call of a transaction is refused. After it the transaction is as it was.
+/// Why a call of a transaction is refused. After a refusal the transaction is unchanged.
 #[derive(Debug, Drop, PartialEq, Eq, Error)]
 pub enum TxFault {
     /// A read of a transaction that only writes.
     #[error("the transaction only writes")]
     WriteOnly,
-    /// State data in the configuration: the path written, where it is of a state node, or else that of the first row of one.
+    /// State data in the configuration: the path written, if it is of a state node, or else that of the first row of one.
     #[error("state data in the configuration")]
     NotConfig { path: Path },
     /// A write at a key leaf.

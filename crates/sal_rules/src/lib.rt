@@ -1,5 +1,5 @@
 //! The rules of a tree and of a write, as definitions over plain rows: which structural rules a tree breaks, and why a write
-//! is refused. There is no code but worked examples; `sal_check` and `sal_tx` have the calls that keep these definitions.
+//! is refused. The only code is worked examples; `sal_check` and `sal_tx` have the calls that keep these definitions.
 //!
 //! | item | what it is |
 //! |---|---|
@@ -8,13 +8,13 @@
 //! | `examples`, `refused` | functions that do nothing, each with worked examples as its contract |
 //! | `laws` | operations under a version of a schema and under each later one, as laws |
 //!
-//! `specs/` has the places of a tree and the node of each (`Places`), what is seen from a place (`Seen`), the context of a
-//! node and the way from it (`Contexts`), the five structural rules (`Rules`), all breaches with the one that is reported
-//! (`Breaches`), why a write is refused (`Refusals`), which operations are for a schema (`Writes`), and what stays of them under a
+//! `specs/` has the places of a tree and the node of each (`Places`), the tree as seen from a place (`Seen`), the context of a
+//! node and the steps from it (`Contexts`), the five structural rules (`Rules`), all breaches with the one that is reported
+//! (`Breaches`), why a write is refused (`Refusals`), which operations are for a schema (`Writes`), and which of that stays under a
 //! later version of it (`Versions`).
 //!
-//! Rules are judged at each entry, presence container and container that is present, and at the root. A node whose context is a
-//! list or presence container is demanded at each of them; one whose context is a case, if a node of the case is present; and one
+//! Rules are checked at each entry, presence container and container that is present, and at the root. A node whose context is a
+//! list or presence container is required at each of them; one whose context is a case, if a node of the case is present; and one
 //! without a context, if the tree has the top-level container above it. XPath, leafrefs and defaults are not
 //! evaluated.
 //!

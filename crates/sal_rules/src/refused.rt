@@ -9,7 +9,7 @@ ghost use Rattle.sal_rules.specs.Refusals.{refusal};
 
 use crate::fault::TxFault;
 
-/// The definitions give what the examples say. A call does nothing: its clauses are the laws.
+/// The examples as clauses. A call does nothing.
 pub fn refused_writes()
     ensures table { IsTable example.depot_table }
     ensures root { refusal example.depot_table [] (example.op Config [] (Put [])) ≡ Some TxFault.RootPath }

@@ -1,4 +1,4 @@
--- Seats for the clients of a run, and the clients taken in again.
+-- Seats for the clients of a run, and their seats joined again.
 use Rattle.std.specs.Prelude.{◌≡◌, ◌++◌, ℕ, zero, suc, List, [], ◌∷◌, Ok, Err, Result, Some, IsSome, length, map, slice_get, true}
 use mathlib.Core.List.{IsPrefix}
 use Rattle.sal_history.specs.declared.call.Entry.{Entry}
@@ -20,7 +20,7 @@ abbrev pub upto : ℕ → List ℕ
 upto zero = []
 upto (suc n) = upto n ++ n ∷ []
 
--- a client at its beginning, with a new seat of its number off the giver's
+-- a client before its first step, with a new seat of its number split from the giver's
 pub record IsSeated (turn : TableId) (giver : SeatView) (n : ℕ) (s : SeatedRun) : Type 0 where
   pub there : IsSome s.seat
   pub lock : (inside s.seat).lock ≡ turn
@@ -35,7 +35,7 @@ pub record AreSeated (lock : TableId) (giver : SeatView) (n : ℕ) (runs : List 
   pub long : length runs ≡ n
   pub each : (i : ℕ) (s : SeatedRun) → slice_get runs i ≡ Some s → IsSeated lock giver i s
 
--- what a client was answered, after the others', unless one of them stopped
+-- the replies of a client, after the others', unless one of them stopped
 abbrev pub with_replies : Result (List (List StepReply)) RunFault → Result (Unit {0}) RunFault → List StepReply → Result (List (List StepReply)) RunFault
 with_replies (Ok list) (Ok done) replies = Ok (list ++ replies ∷ [])
 with_replies (Ok list) (Err fault) replies = Err fault
@@ -55,7 +55,7 @@ pub record Joins (turn : TableId) (v : SeatView) (fs : List SeatedRun) (place : 
   pub joined : place.view.joined ≡ map named fs
   pub seen : (i : ℕ) (f : SeatedRun) → slice_get fs i ≡ Some f → IsPrefix (inside f.seat).view.seen place.view.seen
 
--- What was kept of the clients: where it is all of their replies each has ended, and a full history was found by one of them.
+-- The results of the clients: if it is all of their replies each has ended, and a full history was found by one of them.
 pub record Collects (fs : List SeatedRun) (replies : Result (List (List StepReply)) RunFault) : Type 0 where
   pub all : (list : List (List StepReply)) → replies ≡ Ok list → list ≡ map (λ (f : SeatedRun). replies_in f.run) fs
   pub ended : (list : List (List StepReply)) → replies ≡ Ok list → (i : ℕ) (f : SeatedRun) → slice_get fs i ≡ Some f → f.end ≡ Ok tt

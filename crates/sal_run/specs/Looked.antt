@@ -1,4 +1,4 @@
--- How many turns a client takes where it looks for marks.
+-- The number of turns of a client that looks for marks.
 use Rattle.std.specs.Prelude.{◌≡◌, ◌⊎◌, ℕ, ◌+◌, ◌*◌, ◌≤◌, Bool, true, false, ◌&&◌, if◌then◌else◌, List, [], ◌∷◌, Option, Some}
 use Rattle.sal_history.specs.declared.reply.Reply.{Reply}
 use Rattle.sal_history.specs.declared.reply.Reply.TheVariants.{Late}
@@ -29,12 +29,12 @@ late_looks (x ∷ xs) = (if is_late_look x then 1 else 0) + late_looks xs
 abbrev pub late_in : SeatView → ℕ
 late_in v = late_looks (exchanges_in (known v).world v.seen v.number)
 
--- Between what the seat knew first and what it knew then it took as many turns as there can be looks, for each mark that became late.
+-- Between its first and its last knowledge the seat took at least the largest number of looks for each mark that was late.
 abbrev pub Looked : SeatView → SeatView → Type 0
 Looked v w = v.turns + 4194304 * late_in w ≤ w.turns + 4194304 * late_in v
 
--- The turn for a call, of a seat that knew v: the next one. For a look for a mark further ones, each only where the log that the one before
--- left has no such mark; and as many as there can be looks, unless the log of the last has it.
+-- The turn for a call, of a seat that knew v: the next one. For a look for a mark further ones, each only if the log after the one
+-- before has no such mark; and the largest number of looks, unless the log of the last has it.
 abbrev pub LooksFor : Wish → SeatView → Holding → Type 0
 LooksFor (After mark) v h =
     (v.turns ≤ h.view.turns)

@@ -1,4 +1,4 @@
--- The clients of a run, taken in again at the opening seat.
+-- The clients of a run, with their seats joined to the opening one.
 use Rattle.std.specs.Prelude.{◌≡◌, ℕ, List, [], ◌∷◌, Result, Some, length, slice_get, true}
 use Rattle.sal_history.specs.declared.call.Entry.{Entry}
 use Rattle.sal_history.specs.World.{Domain}
@@ -23,7 +23,7 @@ pub record IsOpening (turn : TableId) (p : Place Entry (List Domain)) : Type 0 w
   pub given : p.view.given ≡ 65535 ∷ []
   pub joined : p.view.joined ≡ []
 
--- Each client of the programs went through its own at a seat off the opening one, that knew v, and was taken in again at this seat.
+-- Each client of the programs ran its own at a seat split from the opening one, that knew v, and was joined to this seat again.
 pub record AreRan (tables : List Versions) (lock : TableId) (programs : List (List ScriptStep)) (v : SeatView) (place : Place Entry (List Domain)) (replies : Result (List (List StepReply)) RunFault) : Type 0 where
   pub clients : List SeatedRun
   pub long : length clients ≡ length programs

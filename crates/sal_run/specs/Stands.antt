@@ -16,7 +16,7 @@ use Rattle.sal_client.specs.declared.run.ClientRun.{ClientRun as CodeRun}
 use Rattle.sal_client.specs.Clients.{IsSound, client_of}
 use Rattle.sal_client.specs.Runs.{IsProgram}
 
--- Client c with these steps is at this run: along the log it made the calls that are its own there, and no others.
+-- Client c with these steps is at this run: along the log it made exactly its own calls there.
 pub record StandsIn (tables : List Versions) (steps : List ScriptStep) (c : ℕ) (log : HubHistory) (own : List Entry) (r : CodeRun) (now : Run) : Type 0 where
   pub number : r.client.number ≡ c
   pub reads : tables ≡ versions_of log.world
@@ -34,7 +34,7 @@ pub record HasEnded (tables : List Versions) (steps : List ScriptStep) (v : Seat
   pub whole : entries_by maker_of v.number v.seen ≡ v.own
   pub at : IsAt tables (known v).world v.number (moves_of steps) v.seen (record { client = client_of r.client; steps = [] })
 
--- a turn of a seat that knew v, in which nothing is done yet
+-- a turn of a seat that knew v, before any call in it
 pub record Enters (turn : TableId) (v : SeatView) (h : Holding) : Type 0 where
   pub lock : h.lock ≡ turn
   pub rights : SameRights v h.view

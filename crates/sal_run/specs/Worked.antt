@@ -33,9 +33,9 @@ pub record IsNew (tables : List Versions) (turn : TableId) (programs : List (Lis
   pub own : (inside s.seat).view.own ≡ []
   pub none : entries_by maker_of (inside s.seat).view.number (inside s.seat).view.seen ≡ []
 
--- What became of the client of a seat: its entries are at most as many as its steps. Where it reached its end, they are its calls, each
--- once and in its order, along the log that the seat has seen, and it has a reply to each of its steps; and the seat took as many turns as
--- there can be looks, for each mark that became late. It was stopped by a full history only where the seat has seen one.
+-- The client of a seat after its run: its entries are at most as many as its steps. If it reached its end, they are its calls, each
+-- once and in its order, along the log that the seat has seen, and it has a reply to each of its steps; and the seat took at least
+-- the largest number of looks for each mark that was late. It was stopped by a full history only if the seat has seen one.
 pub record Worked (tables : List Versions) (lock : TableId) (programs : List (List ScriptStep)) (before : Place Entry (List Domain)) (f : SeatedRun) : Type 0 where
   pub there : IsSome f.seat
   pub keeps : Keeps lock before (inside f.seat)

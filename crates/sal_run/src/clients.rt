@@ -1,4 +1,4 @@
-//! Clients that have their seats, each on a thread of its own.
+//! Clients with their seats, each on a separate thread.
 ghost use Rattle.std.specs.Prelude.{◌≡◌, ◌<◌, ℕ, IsSome, IsTrue, length, slice_index_or};
 ghost use Rattle.sal_broker.specs.Seats.{inside};
 ghost use Rattle.sal_script.specs.JsonMoves.{have_json_moves};
@@ -15,7 +15,7 @@ use std::alloc::Global;
 use std::sync::Wait;
 use std::thread::{Threads, for_each_mut};
 
-/// Where clients run: the broker that they share, what reads their steps, and the gate that each passes before each of its steps.
+/// The environment of clients: their shared broker, the readers of their steps, and the gate that each passes before each of its steps.
 #[derive(Drop)]
 pub struct Hall<'a, G> {
     pub sal: &'a Sal,
@@ -23,14 +23,14 @@ pub struct Hall<'a, G> {
     pub gate: &'a G,
 }
 
-/// A client with its seat at the broker: before its first step, and when it has ended or was stopped. It keeps its place and its
+/// A client with its seat at the broker: before its first step, and when it has ended or was stopped. It keeps its place in the program and its
 /// replies so far.
 #[derive(Drop)]
 pub struct SeatedRun {
     pub run: ClientRun,
     /// Its seat: none only while it runs.
     pub seat: Option<Seat>,
-    /// Whether it reached the end of its program; of a client before its first step it says nothing.
+    /// Whether it reached the end of its program; for a client before its first step it has no meaning.
     pub end: Result<(), RunFault>,
 }
 
@@ -43,7 +43,7 @@ pub(crate) fn seat_in(place: Option<Seat>) -> Seat
     seat
 }
 
-// Takes the client through its program.
+// Runs the client's program.
 fn run_one<R: Wait, G: Gate>(
     rt: &R,
     alloc: Global,
@@ -68,8 +68,8 @@ fn run_one<R: Wait, G: Gate>(
     seated.end = end;
 }
 
-/// Takes each client through its program, on a thread of its own. The clients are at their beginning, in one of the programs each,
-/// and their seats have no entries. Each reaches its end or stops: where its seat has seen a full log, or for want of memory. It then
+/// Runs each client's program, on a separate thread. The clients are before their first steps, each in one of the programs,
+/// and their seats have no entries. Each reaches its end or stops: if its seat has seen a full log, or if memory runs out. It then
 /// keeps its place and its seat. The threads themselves take no memory of `alloc`.
 pub fn run_clients<R: Threads + Wait + Sync, G: Gate>(
     rt: &R,

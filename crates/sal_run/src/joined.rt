@@ -1,4 +1,4 @@
-//! Seats for all clients, and the clients taken in again.
+//! Seats for all clients, and their seats joined again.
 ghost use Rattle.std.specs.Prelude.{◌≡◌, ◌⊎◌, ◌<◌, ◌++◌, ℕ, [], ◌∷◌, Ok, Err, IfOk, IsSome, OnOk, length, map, true, slice_get, Some};
 ghost use Rattle.sal_hub.specs.HubHistory.{HubHistory};
 ghost use Rattle.sal_broker.specs.Seats.{inside};
@@ -16,10 +16,10 @@ use sal_script::StepReply;
 use sal_types::{NoMemory, Seq};
 use std::alloc::Global;
 
-/// What the clients were answered, in the order of their numbers, or why one of them stopped.
+/// The clients' replies, in the order of their numbers, or why one of them stopped.
 pub(crate) type Replies = Result<Seq<Seq<StepReply>>, RunFault>;
 
-// A client at its beginning, with a new seat of its number.
+// A client before its first step, with a new seat of its number.
 fn seated(alloc: Global, sal: &Sal, opening: &mut Seat, number: u32) -> SeatedRun
     requires lock { opening.old.lock ≡ sal.now }
     requires may_split { opening.old.view.splits ≡ true }
@@ -34,7 +34,7 @@ fn seated(alloc: Global, sal: &Sal, opening: &mut Seat, number: u32) -> SeatedRu
     }
 }
 
-/// The clients of so many numbers at their beginning, each with a seat off the opening one, which has given no number yet.
+/// The clients of this many numbers before their first steps, each with a seat split from the opening one, which has given no number yet.
 pub(crate) fn seat_all(
     alloc: Global,
     sal: &Sal,
@@ -55,7 +55,7 @@ pub(crate) fn seat_all(
     Ok(runs)
 }
 
-// What one more client was answered, after the others.
+// The replies of one more client, after the others.
 fn with_next(replies: Replies, run: ClientRun, end: Result<(), RunFault>) -> Replies
     ensures { (result ≡ with_replies replies end (replies_in run)) ⊎ (result ≡ Err RunFault.NoMemory) }
 {
@@ -76,7 +76,7 @@ fn pushed(list: Seq<Seq<StepReply>>, replies: Seq<StepReply>) -> Replies
     }
 }
 
-/// Takes all clients in: their seats are joined to the first one, in their order.
+/// Joins the seats of all clients to the first one, in their order.
 pub(crate) fn join_all(
     alloc: Global,
     sal: &Sal,

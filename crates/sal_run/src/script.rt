@@ -1,4 +1,4 @@
-//! A whole script, its clients on threads of their own.
+//! A whole script, its clients on separate threads.
 ghost use Rattle.std.specs.Prelude.{◌≡◌, ◌<◌, ℕ, [], ◌∷◌, IfOk, IsTrue, length, slice_index_or, true};
 ghost use Rattle.sal_broker.specs.Seats.{inside, known};
 ghost use Rattle.sal_script.specs.Along.{AreLogOf};
@@ -21,7 +21,7 @@ use std::alloc::Global;
 use std::sync::Wait;
 use std::thread::Threads;
 
-// The clients as they ended, each on a thread.
+// The clients after their runs, each on a thread.
 fn all_run<R: Threads + Wait + Sync, G: Gate>(
     rt: &R,
     alloc: Global,
@@ -39,7 +39,7 @@ fn all_run<R: Threads + Wait + Sync, G: Gate>(
     runs
 }
 
-// The clients of the programs at seats off the opening one, each on a thread, and all taken in again.
+// The clients of the programs at seats split from the opening one, each on a thread; then all seats joined again.
 fn run_all<R: Threads + Wait + Sync, G: Gate>(
     rt: &R,
     alloc: Global,
@@ -58,8 +58,8 @@ fn run_all<R: Threads + Wait + Sync, G: Gate>(
     Ok(join_all(alloc, hall.sal, opening, finished))
 }
 
-/// Runs the clients of the script over a hub without calls, whose domains have the readers' schemas: each on a thread of its own, with a
-/// seat of its own. The gate is passed before each step; the script's order is not looked at.
+/// Runs the clients of the script over a hub without calls, whose domains have the readers' schemas: each on a separate thread, with its
+/// own seat. The gate is passed before each step; the script's order is not used.
 pub fn run<R: Threads + Wait + Sync, G: Gate>(
     rt: &R,
     alloc: Global,

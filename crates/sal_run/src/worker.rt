@@ -16,10 +16,10 @@ use sal_types::NoMemory;
 use std::alloc::Global;
 use std::sync::Wait;
 
-// Turns within which each client reaches its end: one for each of its steps, and one more.
+// The number of turns within which each client reaches its end: one for each of its steps, and one more.
 const MOST_TURNS: usize = 60001;
 
-/// What a client needs to go through its program.
+/// The environment in which a client runs its program.
 #[derive(Drop)]
 pub(crate) struct Worker<'a, G> {
     pub(crate) sal: &'a Sal,
@@ -29,7 +29,7 @@ pub(crate) struct Worker<'a, G> {
 }
 
 impl<'a, G: Gate> Worker<'a, G> {
-    // The turn for the call: the next one; for a look for a mark one at which the mark was left, or the last of all looks.
+    // The turn for the call: the next one; for a look for a mark one at which the mark was set, or the last of all looks.
     fn turn_for<R: Wait>(&self, rt: &R, seat: Seat, wish: &Wish) -> Held
         requires { seat.lock ≡ self.now.sal.now }
         ensures enters { Enters self.now.sal.now seat.view result }
@@ -103,7 +103,7 @@ impl<'a, G: Gate> Worker<'a, G> {
         }
     }
 
-    /// Goes through the program to its end, or to the call at which the client stops.
+    /// Runs the program to its end, or to the call at which the client stops.
     #[tactic(auto, using(crate::proofs::Looking::looked_on))]
     pub(crate) fn work<R: Wait>(
         &self,

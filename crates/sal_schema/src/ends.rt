@@ -1,4 +1,4 @@
-//! What a path names, by the kind of its node.
+//! The node of a path, and properties of the path by that node's kind.
 ghost use Rattle.std.specs.Prelude.{◌≡◌, Some};
 ghost use Rattle.sal_schema.specs.Fitting as spec;
 ghost use Rattle.sal_schema.specs.Paths.{node_of};
@@ -23,7 +23,7 @@ impl Schema {
         }
     }
 
-    /// Whether the path has a row wherever its node is present: at leafs, presence containers and entries.
+    /// Whether the path has a row whenever its node is present: at leafs, presence containers and entries.
     pub fn has_own_row(&self, path: &Path) -> bool
         ensures { result ≡ spec.has_own_row self.now path.now }
     {

@@ -15,7 +15,7 @@ pub fn tables()
     ensures messages { IsTable example.messages }
 {}
 
-/// The definitions give what the examples say. A call does nothing: its clauses are the laws.
+/// The examples as clauses. A call does nothing.
 pub fn examples()
     ensures text { table_text example.topology ≡ codes "0 - container topo:network config\n1 0 list topo:node config key id\n2 1 leaf topo:id config string\n3 1 list topo:link config key peer port\n4 3 leaf topo:peer config string\n5 3 leaf topo:port config uint16\n6 3 leaf topo:speed config enumeration\n7 3 leaf topo:octets state uint64\n8 1 leaf geo:site config string\n" }
     ensures children { children_of example.topology (Some 1) ≡ 2 ∷ 3 ∷ 8 ∷ [] }

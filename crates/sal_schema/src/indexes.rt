@@ -1,6 +1,6 @@
 //! The indexes that a schema keeps in addition to its table.
 //!
-//! Each function owns one value over one early exit, which keeps the proofs short.
+//! Each function makes one value with one early exit, which keeps the proofs short.
 ghost use Rattle.std.specs.Prelude.{◌≡◌, IfOk, None, length};
 ghost use Rattle.std.specs.List.Sorted.{IsPermutation};
 ghost use Rattle.sal_schema.specs.Beside.{ArePlaces, IsPlaced, AreStatics, AreMessages, AreTops};
@@ -40,20 +40,20 @@ pub(crate) struct Messages {
     pub(crate) notifications: Index,
 }
 
-/// What is looked up by numbers, and the names of the nodes for data.
+/// The indexes by number, and the names of the data nodes.
 #[derive(Drop)]
 pub(crate) struct Placed {
     pub(crate) places: Places,
     pub(crate) data_nodes: Index,
 }
 
-/// What is looked up by names at the top.
+/// The names at the top.
 pub(crate) struct Tops {
     pub(crate) statics: Statics,
     pub(crate) messages: Messages,
 }
 
-/// All that a schema keeps in addition to its table.
+/// All indexes of a table.
 pub(crate) struct Beside {
     pub(crate) placed: Placed,
     pub(crate) tops: Tops,

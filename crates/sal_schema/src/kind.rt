@@ -2,7 +2,7 @@
 ghost use Rattle.std.specs.Prelude.{◌≡◌};
 ghost use Rattle.sal_schema.specs.Kinds as spec;
 
-/// What a schema node is. A presence container is data even if it is empty.
+/// The kind of a schema node. A presence container is data even if it is empty.
 #[derive(Clone, Copy, PartialEq, Eq)]
 pub enum Kind {
     Container { presence: bool },
@@ -18,7 +18,7 @@ pub enum Kind {
 }
 
 impl Kind {
-    /// Whether it is a container, a list, a leaf-list or a leaf: what the steps of a path name.
+    /// Whether it is a container, a list, a leaf-list or a leaf: the nodes that the steps of a path name.
     pub fn is_data(&self) -> bool
         ensures { result ≡ spec.is_data self.now }
     {
@@ -28,7 +28,7 @@ impl Kind {
         }
     }
 
-    /// Whether it is a choice or a case, which paths pass over.
+    /// Whether it is a choice or a case, which paths skip.
     pub fn is_choice_or_case(&self) -> bool
         ensures { result ≡ spec.is_choice_or_case self.now }
     {
@@ -58,7 +58,7 @@ impl Kind {
         }
     }
 
-    /// The word of the kind in the table's text.
+    /// The kind's word in the table's text.
     pub fn word(&self) -> &'static str
         ensures { result.now ≡ spec.word self.now }
     {

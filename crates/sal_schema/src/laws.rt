@@ -10,7 +10,7 @@ pub fn versions_are_in_order()
     ensures counts { CountsTell }
 {}
 
-/// What fits a version fits each later one: a path, and rows at a path.
+/// A path, and rows at a path, that fit a version fit each later one.
 pub fn what_fits_stays()
     ensures paths { PathsStay }
     ensures rows { RowsStay }

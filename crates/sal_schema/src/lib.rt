@@ -1,19 +1,19 @@
-//! A schema: the nodes, types and identities of YANG modules as a table, with the look-ups that a data store asks of it.
+//! A schema: the nodes, types and identities of YANG modules as a table, with the look-ups of a data store.
 //!
 //! | item | what it is |
 //! |---|---|
 //! | `Schema` | a schema; a contract sees it as its table |
 //! | `SchemaTable`, `NodeInfo`, `IdentityInfo` | the table as data: nodes, types, modules and identities by their numbers |
-//! | `Kind` | what a node is: a container, a list, a leaf-list, a leaf, a choice, a case, or a part of an RPC or notification |
+//! | `Kind` | the kind of a node: a container, a list, a leaf-list, a leaf, a choice, a case, or a part of an RPC or notification |
 //! | `Leafs` | a list of numbers |
-//! | `lookups` | what a schema says of a node by its number: its module, type, keys, name and kind; nothing of a number that no node has |
+//! | `lookups` | a node's module, type, keys, name and kind by its number; none for a number without a node |
 //! | `table_on` | the table of a later version: an older table, extended by the new lines of another one |
 //! | `empty_lists`, `add_to_list` | lists of numbers, one for each place |
-//! | `laws` | what holds of versions, as laws |
+//! | `laws` | laws of versions |
 //!
-//! `specs/` has what a table says of a node (`Table`) and of a name (`Names`), which tables are tables of a schema
+//! `specs/` defines the properties of a node (`Table`) and the meaning of a name (`Names`), which tables are tables of a schema
 //! (`Valid`), which values are of a type (`Values`), which paths and rows fit (`Paths`, `Fitting`), the table's text
-//! (`Text`), and which table is a later version of another (`Versions`). Each look-up answers what these definitions give;
+//! (`Text`), and which table is a later version of another (`Versions`). Each look-up returns what these definitions give;
 //! `Schema::len` says that the table is one of a schema.
 //!
 //! ```
@@ -28,12 +28,12 @@
 //! |---|---|
 //! | `Schema::from_table` | n log n comparisons of names; a copy of each name of a node for data, and a list for each node |
 //! | a look-up by number, `children`, those of `lookups` | constant; `push_full_name` is linear in the names |
-//! | `child`, `rpc`, `notification`, `identity` | a search by halves among the modules, and one among the names of its kind |
-//! | `is_derived`, `fits` | linear in the identities that the identity is derived from; in the steps and their values |
+//! | `child`, `rpc`, `notification`, `identity` | a binary search among the modules, and one among the names of its kind |
+//! | `is_derived`, `fits` | linear in the identities from which the identity is derived; in the steps and their values |
 //! | `text` | linear in the text |
 //! | `extends`, `table_on` | linear in the older table; in both tables |
 //!
-//! Only `from_table`, `text` and `table_on` take memory. No call goes deeper than the types of a union.
+//! Only `from_table`, `text` and `table_on` take memory. Recursion is no deeper than the types of a union.
 #![tactic(auto)]
 
 mod ends;

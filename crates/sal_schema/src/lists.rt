@@ -6,7 +6,7 @@ ghost use Rattle.std.specs.declared.vec.Vec.{Vec as Vector};
 use sal_types::NoMemory;
 use std::alloc::Global;
 
-/// So many lists, all of them empty.
+/// `count` empty lists.
 pub fn empty_lists(alloc: Global, count: usize) -> Result<Vec<Vec<u32>>, NoMemory>
     ensures count { IfOk result (λ lists. length lists.items ≡ count) }
     ensures empty { IfOk result (λ lists. (k : ℕ) (d : Vector ℕ Heap) → k < count → (slice_index_or lists.items k d).items ≡ []) }

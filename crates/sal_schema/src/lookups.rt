@@ -1,4 +1,4 @@
-//! What a schema says of nodes, also of numbers that no node has.
+//! Properties of nodes by number, also for numbers without a node.
 ghost use Rattle.std.specs.Prelude.{◌≡◌, ◌<◌, ◌++◌, length, string_bytes, IfSome, OnOk};
 ghost use Rattle.sal_schema.specs.Kinds as kinds;
 ghost use Rattle.sal_schema.specs.Table as table;
@@ -8,7 +8,7 @@ use crate::kind::Kind;
 use crate::schema::Schema;
 use std::alloc::AllocError;
 
-/// The module of a node; none where no node has the number.
+/// The module of a node; none if no node has the number.
 pub fn module_at(schema: &Schema, node: u32) -> Option<u32>
     ensures module_number { result ≡ table.module_of schema.now node }
     ensures within { IfSome result (λ m. m < length schema.now.modules) }
@@ -20,7 +20,7 @@ pub fn module_at(schema: &Schema, node: u32) -> Option<u32>
     }
 }
 
-/// The type of a leaf or leaf-list; none of another node.
+/// The type of a leaf or leaf-list; none for another node.
 pub fn type_at(schema: &Schema, node: u32) -> Option<u32>
     ensures ty { result ≡ table.type_of schema.now node }
     ensures within { IfSome result (λ ty. ty < length schema.now.types) }
@@ -42,7 +42,7 @@ fn kind_at(schema: &Schema, node: u32) -> Option<Kind>
     }
 }
 
-/// The key leafs of a list, in order; none of another node.
+/// The key leafs of a list, in order; none for another node.
 pub fn keys_at(schema: &Schema, node: u32) -> &[u32]
     ensures { result.now ≡ table.keys_of schema.now node }
 {
@@ -53,7 +53,7 @@ pub fn keys_at(schema: &Schema, node: u32) -> &[u32]
     }
 }
 
-/// The name of a node, without its module; empty where no node has the number.
+/// The name of a node, without its module; empty if no node has the number.
 pub fn name_at(schema: &Schema, node: u32) -> &str
     ensures { result.now ≡ table.name_of schema.now node }
 {
@@ -64,7 +64,7 @@ pub fn name_at(schema: &Schema, node: u32) -> &str
     }
 }
 
-/// The name of a node's module; empty where no node has the number.
+/// The name of a node's module; empty if no node has the number.
 pub fn own_module(schema: &Schema, node: u32) -> &str
     ensures { result.now ≡ spec.own_module schema.now node }
 {
@@ -84,7 +84,7 @@ pub fn push_full_name(out: &mut String, schema: &Schema, node: u32) -> Result<()
     out.push_str(name_at(schema, node))
 }
 
-/// Whether the node is there and is a leaf.
+/// Whether the node exists and is a leaf.
 pub fn is_leaf(schema: &Schema, node: u32) -> bool
     ensures { result ≡ table.is_kind kinds.is_leaf schema.now node }
 {
@@ -94,7 +94,7 @@ pub fn is_leaf(schema: &Schema, node: u32) -> bool
     }
 }
 
-/// Whether the node is there and is a list.
+/// Whether the node exists and is a list.
 pub fn is_list(schema: &Schema, node: u32) -> bool
     ensures { result ≡ table.is_kind kinds.is_list schema.now node }
 {
@@ -104,7 +104,7 @@ pub fn is_list(schema: &Schema, node: u32) -> bool
     }
 }
 
-/// Whether the node is there and is a leaf-list.
+/// Whether the node exists and is a leaf-list.
 pub fn is_leaf_list(schema: &Schema, node: u32) -> bool
     ensures { result ≡ table.is_kind kinds.is_leaf_list schema.now node }
 {
@@ -114,7 +114,7 @@ pub fn is_leaf_list(schema: &Schema, node: u32) -> bool
     }
 }
 
-/// Whether the node is there and is a list or a leaf-list.
+/// Whether the node exists and is a list or a leaf-list.
 pub fn has_entries(schema: &Schema, node: u32) -> bool
     ensures { result ≡ table.is_kind kinds.has_entries schema.now node }
 {
@@ -124,7 +124,7 @@ pub fn has_entries(schema: &Schema, node: u32) -> bool
     }
 }
 
-/// Whether the node is there and is a presence container.
+/// Whether the node exists and is a presence container.
 pub fn is_presence(schema: &Schema, node: u32) -> bool
     ensures { result ≡ table.is_kind kinds.is_presence schema.now node }
 {

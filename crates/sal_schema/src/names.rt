@@ -1,4 +1,4 @@
-//! Names and what they name, found by halves.
+//! Names and the numbers of their nodes, modules or identities, with binary search.
 ghost use Rattle.std.specs.Prelude.{◌≡◌, IfOk, refl};
 ghost use Rattle.std.specs.List.Sorted.{IsPermutation};
 ghost use Rattle.std.specs.Ordering.{as_partial_cmp, eq_by_cmp};
@@ -17,7 +17,7 @@ pub(crate) struct Name {
     pub(crate) text: Str,
 }
 
-/// A name and the number of what it names.
+/// A name, and the number of the node, module or identity with that name.
 #[derive(Drop)]
 pub(crate) struct Named {
     pub(crate) name: Name,
@@ -102,7 +102,7 @@ impl Index {
         Ok(Index { list })
     }
 
-    /// What one of the names that are equal to it means; none if there is no such name.
+    /// The number of an entry with this name; none if there is no such name.
     pub(crate) fn find(&self, parent: Option<u32>, module: u32, text: &str) -> Option<u32>
         ensures { spec.Finds self.now (spec.name_of_parts parent «module» text.now) result }
     {

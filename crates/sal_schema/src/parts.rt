@@ -12,7 +12,7 @@ use crate::table::{IdentityInfo, NodeInfo, SchemaTable};
 use sal_types::{Duplicate, NoMemory, Str};
 use std::alloc::Global;
 
-/// The children of the top, and those of each node.
+/// The top-level nodes, and the children of each node.
 #[derive(Drop)]
 pub(crate) struct Children {
     pub(crate) top: Vec<u32>,

@@ -1,4 +1,4 @@
-//! Schemas: a table with the look-ups that are asked of it.
+//! Schemas: a table with its look-ups.
 ghost use Rattle.std.specs.Prelude.{◌≡◌, ◌<◌, List, Some, IfOk, IfSome, IsTrue, length};
 ghost use Rattle.std.specs.List.Sorted.{IsPermutation};
 ghost use Rattle.std.specs.List.{slice_get, All};
@@ -66,7 +66,7 @@ impl Schema {
         &self.table
     }
 
-    /// How many nodes it has. Their numbers are those below.
+    /// The number of its nodes. Their numbers are those below it.
     pub fn len(&self) -> u32
         ensures count { result ≡ length self.now.nodes }
         ensures table { IsTable self.now }
@@ -91,7 +91,7 @@ impl Schema {
         self.node(node).kind
     }
 
-    /// The node above it, choices and cases among them; none at the top.
+    /// Its parent, choices and cases included; none at the top.
     pub fn parent(&self, node: u32) -> Option<u32>
         requires { node < length self.now.nodes }
         ensures parent { result ≡ spec.parent_of self.now node }
@@ -100,7 +100,7 @@ impl Schema {
         self.node(node).parent
     }
 
-    /// The key leafs of a list, in order; none of another node.
+    /// The key leafs of a list, in order; none for another node.
     pub fn keys(&self, node: u32) -> &[u32]
         requires { node < length self.now.nodes }
         ensures keys { result.now ≡ spec.keys_of self.now node }
@@ -151,7 +151,7 @@ impl Schema {
         self.node(node).mandatory
     }
 
-    /// The fewest entries of a list or leaf-list: 0 where it is not stated.
+    /// The smallest number of entries of a list or leaf-list: 0 if it is not stated.
     pub fn min_elements(&self, node: u32) -> u32
         requires { node < length self.now.nodes }
         ensures { result ≡ spec.min_elements self.now node }
@@ -159,7 +159,7 @@ impl Schema {
         self.node(node).min_elements
     }
 
-    /// The most entries of a list or leaf-list: none where it is unbounded.
+    /// The largest number of entries of a list or leaf-list: none if it is unbounded.
     pub fn max_elements(&self, node: u32) -> Option<u32>
         requires { node < length self.now.nodes }
         ensures { result ≡ spec.max_elements self.now node }
@@ -175,7 +175,7 @@ impl Schema {
         self.node(node).unique.items()
     }
 
-    /// The children of a node, or of the top, in the schema tree, by number. Choices and cases are among them.
+    /// The children of a node, or of the top, in the schema tree, by number. Choices and cases are included.
     pub fn children(&self, parent: Option<u32>) -> &[u32]
         requires { IfSome parent (λ p. p < length self.now.nodes) }
         ensures children { result.now ≡ spec.children_of self.now parent }
@@ -187,7 +187,7 @@ impl Schema {
         }
     }
 
-    /// How many types it has.
+    /// The number of its types.
     pub fn types(&self) -> u32
         ensures { result ≡ length self.now.types }
     {
@@ -202,7 +202,7 @@ impl Schema {
         &self.table.types.items()[ty as usize]
     }
 
-    /// How many modules it has.
+    /// The number of its modules.
     pub fn modules(&self) -> u32
         ensures { result ≡ length self.now.modules }
     {
@@ -217,7 +217,7 @@ impl Schema {
         self.table.modules.items()[module as usize].as_str()
     }
 
-    /// How many identities it has.
+    /// The number of its identities.
     pub fn identities(&self) -> u32
         ensures { result ≡ length self.now.identities }
     {
@@ -257,7 +257,7 @@ impl Schema {
         is_among(base, self.identity_info(identity).derived_from.items())
     }
 
-    /// The node for data of this name below the data parent, or at the top. The search goes through choices and cases.
+    /// The data node of this name below the data parent, or at the top. The search goes through choices and cases.
     pub fn child(&self, parent: Option<u32>, module: &str, name: &str) -> Option<u32>
         ensures { result ≡ names.child_of self.now parent «module».now name.now }
     {
@@ -328,7 +328,7 @@ pub(crate) fn is_among(number: u32, numbers: &[u32]) -> bool
     numbers.iter().any(|other| *other == number)
 }
 
-// What these names have for a name in a module, below a parent or at the top.
+// The number of a name in a module, below a parent or at the top.
 fn found(
     modules: &Index,
     named: &Index,

@@ -6,10 +6,10 @@ use sal_types::{Seq, Str};
 /// Numbers of nodes or of identities.
 pub type Leafs = Seq<u32>;
 
-/// A schema node. Its number is its place in the table.
+/// A schema node. Its number is its index in the table.
 #[derive(Drop)]
 pub struct NodeInfo {
-    /// The node above it, choices and cases among them; none at the top.
+    /// Its parent, choices and cases included; none at the top.
     pub parent: Option<u32>,
     pub kind: Kind,
     /// The module that its name belongs to.
@@ -22,15 +22,15 @@ pub struct NodeInfo {
     /// The key leafs of a list, in the order of its `key` statement.
     pub keys: Leafs,
     pub mandatory: bool,
-    /// 0 where it is not stated.
+    /// 0 if it is not stated.
     pub min_elements: u32,
-    /// None where it is unbounded.
+    /// None if it is unbounded.
     pub max_elements: Option<u32>,
     /// For each `unique` statement its leafs.
     pub unique: Seq<Leafs>,
 }
 
-/// An identity, with all identities that it is derived from, directly or through others.
+/// An identity, with all identities from which it is derived, directly or through others.
 #[derive(Drop)]
 pub struct IdentityInfo {
     pub name: Str,
@@ -38,7 +38,7 @@ pub struct IdentityInfo {
     pub derived_from: Leafs,
 }
 
-/// A schema as data. Parents, types, modules and identities are meant by their numbers, which are their places.
+/// A schema as data. Parents, types, modules and identities are given by their numbers, which are their indexes.
 #[derive(Drop)]
 pub struct SchemaTable {
     pub nodes: Seq<NodeInfo>,

@@ -75,7 +75,7 @@ impl Schema {
         Ok(())
     }
 
-    // The name of a module, or nothing if no module has that number.
+    // The name of a module, or the empty text if no module has that number.
     fn module_or_none(&self, module: u32) -> &str
         ensures { result.now ≡ module_name self.now «module» }
     {
@@ -85,7 +85,7 @@ impl Schema {
         }
     }
 
-    // The name of a node, or nothing if no node has that number.
+    // The name of a node, or the empty text if no node has that number.
     fn name_or_none(&self, node: u32) -> &str
         ensures { result.now ≡ name_of self.now node }
     {

@@ -7,11 +7,11 @@ use crate::schema::{Schema, is_among};
 use sal_restrict::YangType;
 use sal_types::{Atom, Value, characters};
 
-/// How many bits a value of `bits` has.
+/// The number of bits of a value of `bits`.
 const BITS: u8 = 64;
 
 impl Schema {
-    /// Whether the value is of the type, by kind, range, length, and the names that the type takes. Patterns are not looked at.
+    /// Whether the value is of the type, by kind, range, length, and the names that the type takes. Patterns are not checked.
     ///
     /// A value of a union is of the type of its member. A value of another type has the member 0.
     pub fn is_of_type(&self, ty: &YangType, value: &Value) -> bool

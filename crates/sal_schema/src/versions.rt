@@ -12,8 +12,8 @@ use sal_types::{Duplicate, NoMemory, Seq, Str, append};
 use std::alloc::Global;
 
 impl Schema {
-    /// Whether this schema is a later version of the older one: each list of the older table begins the list of this one. A look-up at
-    /// a number of the older table then answers the same here.
+    /// Whether this schema is a later version of the older one: each list of the older table is a prefix of the list of this one. A
+    /// look-up at a number of the older table then has the same result here.
     ///
     /// It takes no memory, and time linear in the older table.
     pub fn extends(&self, older: &Schema) -> bool
@@ -132,7 +132,7 @@ fn same_identity(a: &IdentityInfo, b: &IdentityInfo) -> bool
 
 // ---- types
 
-/// Whether two types that are not unions are the same.
+/// Whether two types that are not unions are equal.
 fn same_plain(a: &YangType, b: &YangType) -> bool
     ensures { result ≡ spec.same_plain a.now b.now }
 {
@@ -331,7 +331,7 @@ fn identities_on(
     Ok(list)
 }
 
-/// The older table, extended by the lines of `whole` that have new numbers: in each list, those after as many as the older list has.
+/// The older table, extended by the lines of `whole` with new numbers: in each list, those after the length of the older list.
 pub fn table_on(
     alloc: Global,
     older: &SchemaTable,

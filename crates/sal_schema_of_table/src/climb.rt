@@ -6,7 +6,7 @@ ghost use Rattle.sal_schema.specs.Table as spec;
 use crate::kind::{is_leaf, is_list};
 use sal_schema::{Kind, SchemaTable};
 
-/// The kind of the node of this number, if it is there.
+/// The kind of the node of this number, if it exists.
 pub(crate) fn kind_of(table: &SchemaTable, number: u32) -> Option<Kind>
     ensures { result ≡ spec.kind_of table.now number }
 {
@@ -16,7 +16,7 @@ pub(crate) fn kind_of(table: &SchemaTable, number: u32) -> Option<Kind>
     }
 }
 
-/// The node above the one of this number.
+/// The parent of the node of this number.
 pub(crate) fn parent_of(table: &SchemaTable, number: u32) -> Option<u32>
     ensures { result ≡ spec.parent_of table.now number }
 {
@@ -26,7 +26,7 @@ pub(crate) fn parent_of(table: &SchemaTable, number: u32) -> Option<u32>
     }
 }
 
-/// Whether the node of this number is there and is a leaf.
+/// Whether the node of this number exists and is a leaf.
 pub(crate) fn is_leaf_at(table: &SchemaTable, number: u32) -> bool
     ensures { result ≡ spec.is_kind kinds.is_leaf table.now number }
 {

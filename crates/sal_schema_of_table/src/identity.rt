@@ -20,7 +20,7 @@ fn is_among(number: u32, numbers: &[u32]) -> bool
     numbers.iter().any(|other| *other == number)
 }
 
-// Whether its module and what it is derived from are there, and it is not derived from itself.
+// Whether its module and the identities from which it is derived exist, and it is not derived from itself.
 fn is_good_identity(table: &SchemaTable, number: u32, identity: &IdentityInfo) -> bool
     ensures { result ≡ is_good_identity table.now number identity.now }
 {
@@ -31,7 +31,7 @@ fn is_good_identity(table: &SchemaTable, number: u32, identity: &IdentityInfo) -
         && !is_among(number, above)
 }
 
-/// Whether each identity is one of a schema, apart from duplicate names.
+/// Whether each identity is one of a schema, except for duplicate names.
 pub(crate) fn are_good_identities(table: &SchemaTable) -> bool
     requires { length table.now.identities < 2 ^ 32 }
     ensures { result ≡ spec.all_from (is_good_identity table.now) 0 table.now.identities }

@@ -1,4 +1,4 @@
-//! What kinds of nodes are like (RFC 7950 section 7).
+//! Properties of the kinds of nodes (RFC 7950 section 7).
 ghost use Rattle.std.specs.Prelude.{◌≡◌, ◌||◌};
 ghost use Rattle.sal_schema.specs.Kinds as spec;
 

@@ -3,13 +3,13 @@
 //!
 //! | item | what it is |
 //! |---|---|
-//! | `is_table` | whether a table is the table of a schema: exactly where `IsTable` of `sal_schema` holds |
+//! | `is_table` | whether a table is the table of a schema: exactly if `IsTable` of `sal_schema` holds |
 //! | `schema_of` | the schema of a table, or that it is not the table of one |
 //! | `TableFault` | why a table gives no schema: it is not the table of one, or memory ran out |
 //!
-//! `sal_schema` defines in `specs/Valid` when a table is one of a schema: its numbers refer to something, each node is below a
+//! `sal_schema` defines in `specs/Valid` when a table is one of a schema: its numbers exist, each node is below a
 //! node that can have it, types are where they belong, keys and unique leafs are those of their lists, no identity is derived
-//! from itself, no union has a union in it, and each name means one thing. `specs/` here has the test as one value for a table
+//! from itself, no union has a union in it, and each name has one meaning. `specs/` here has the test as one value for a table
 //! (`Whole`) and the names by which duplicates are found (`Keys`). The result does not say which rule a table breaks.
 //!
 //! ```
@@ -22,11 +22,12 @@
 //!
 //! | call | cost, for n nodes |
 //! |---|---|
-//! | `is_table` | n log n comparisons of names, and k log k for k keys of a list or k names of an enumeration or of bits; for each node for data a look at the choices and cases right above it, and for each unique leaf at the nodes up to its list; a copy of each name, of one kind of names at a time |
-//! | `schema_of` | that, and what `Schema::from_table` costs |
+//! | `is_table` | n log n comparisons of names, and k log k for k keys of a list or k names of an enumeration or of bits; a walk up from |
+//! | | each data node through its choices and cases, and from each unique leaf to its list; a copy of each name, of one kind at a time |
+//! | `schema_of` | that, and the cost of `Schema::from_table` |
 //!
-//! So a table that is made to be slow, as one chain of choices and cases above many leafs, costs the product of the two. No
-//! call goes deeper than the types of a union.
+//! So a table that is made to be slow, such as one chain of choices and cases above many leafs, costs the product of the two.
+//! Recursion is no deeper than the types of a union.
 #![tactic(auto)]
 
 mod climb;

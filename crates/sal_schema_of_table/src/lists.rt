@@ -12,7 +12,7 @@ use sal_schema::{NodeInfo, SchemaTable};
 use sal_types::NoMemory;
 use std::alloc::Global;
 
-// Whether it is a leaf right below the list of this number.
+// Whether it is a leaf directly below the list of this number.
 fn is_key_leaf(table: &SchemaTable, list: u32, leaf: u32) -> bool
     ensures { result ≡ is_key_leaf table.now list leaf }
 {
@@ -25,7 +25,7 @@ fn are_key_leafs(table: &SchemaTable, list: u32, leafs: &[u32]) -> bool
     leafs.iter().all(|leaf| is_key_leaf(table, list, *leaf))
 }
 
-/// Whether just a list has keys: at least one, each another leaf that is its child.
+/// Whether exactly a list has keys: at least one, each another leaf that is its child.
 pub(crate) fn has_its_keys(
     alloc: Global,
     table: &SchemaTable,

@@ -1,4 +1,4 @@
-//! Whether each name of a table means one thing (RFC 7950 section 6.2.1).
+//! Whether each name of a table has one meaning (RFC 7950 section 6.2.1).
 ghost use Rattle.std.specs.Prelude.{◌≡◌, IfOk};
 ghost use Rattle.std.specs.List.{flat_map};
 ghost use Rattle.sal_schema.specs.Names as names;
@@ -105,8 +105,8 @@ fn data_differ(alloc: Global, table: &SchemaTable) -> Result<bool, NoMemory>
     all_differ(alloc, &keys)
 }
 
-/// Whether each name means one thing: of a module, of an RPC, a notification and an identity of a module, and of a
-/// node for data below its data parent.
+/// Whether each name has one meaning: of a module, of an RPC, a notification and an identity of a module, and of a
+/// data node below its data parent.
 pub(crate) fn has_distinct_names(alloc: Global, table: &SchemaTable) -> Result<bool, NoMemory>
     ensures { IfOk result (λ b. b ≡ has_distinct_names table.now) }
 {

@@ -86,14 +86,14 @@ fn stands_right(table: &SchemaTable, node: &NodeInfo) -> bool
         && (!is_of_top(node.kind) || node.parent.is_none())
 }
 
-// Whether just a leaf or leaf-list has a type.
+// Whether exactly a leaf or leaf-list has a type.
 fn has_its_type(node: &NodeInfo) -> bool
     ensures { result ≡ spec.has_its_type node.now }
 {
     agree(has_type(node.kind), node.ty.is_some())
 }
 
-// Whether the node of this number is one of a schema, apart from duplicate names.
+// Whether the node of this number is one of a schema, except for duplicate names.
 fn is_good_node(
     alloc: Global,
     table: &SchemaTable,
@@ -111,7 +111,7 @@ fn is_good_node(
     Ok(has_its_keys(alloc, table, number, node)? && has_its_uniques(table, number, node))
 }
 
-/// Whether each node is one of a schema, apart from duplicate names.
+/// Whether each node is one of a schema, except for duplicate names.
 pub(crate) fn are_good_nodes(alloc: Global, table: &SchemaTable) -> Result<bool, NoMemory>
     requires { length table.now.nodes < 2 ^ 32 }
     ensures { IfOk result (λ b. b ≡ all_from (is_good_node table.now) 0 table.now.nodes) }

@@ -14,10 +14,10 @@ use sal_schema::{Schema, SchemaTable};
 use sal_types::NoMemory;
 use std::alloc::Global;
 
-/// One more than the most things of a kind that a table may have.
+/// One more than the largest number of elements of a kind in a table.
 const LIMIT: usize = 4_294_967_296;
 
-// Whether there are fewer than 2 ^ 32 of each kind of things.
+// Whether there are fewer than 2 ^ 32 elements of each kind.
 fn is_small(table: &SchemaTable) -> bool
     ensures { result ≡ spec.is_small table.now }
 {
@@ -53,9 +53,9 @@ pub fn is_table(alloc: Global, table: &SchemaTable) -> Result<bool, NoMemory>
     passes(alloc, table)
 }
 
-/// The schema of this table, where it is the table of one.
+/// The schema of this table, if it is the table of one.
 ///
-/// It costs what `is_table` and `Schema::from_table` cost. The table is given up in each case, for want of memory too.
+/// It costs what `is_table` and `Schema::from_table` cost. The table is consumed in each case, also if memory runs out.
 pub fn schema_of(alloc: Global, table: SchemaTable) -> Result<Schema, TableFault>
     ensures schema { IfOk result (λ schema. schema ≡ table) }
     ensures table { OnOk result (IsTable table) }

@@ -28,8 +28,10 @@ use Rattle.sal_history.specs.declared.call.Entry.{Entry}
 use Rattle.sal_history.specs.declared.reply.Reply.{Reply}
 use Rattle.sal_history.specs.declared.reply.Reply.TheVariants.{Refused}
 use Rattle.sal_history.specs.Listeners.{Listening, brings_to, has_listener, listener_at, listeners, listens, version}
+use Rattle.sal_history.specs.Numbered.{numbered}
 use Rattle.sal_history.specs.World.{Domain, opening_of, last_of}
 use Rattle.sal_history.specs.History.{Answered, answer, answered_as, batch_of, commits, history, listen_refusal, listening, refused_or, reply_to, taken, trees_at}
+use Rattle.sal_history.proofs.Numbered.{numbered-at, numbered-is}
 use Rattle.sal_script.specs.Followed.{AreTrees, IsFollowed, followed, follows, opened_at, opens_at, parts_of, tells, told}
 use Rattle.sal_script.proofs.Growing.{Few, commits_left, few_next, trees_left}
 
@@ -98,8 +100,8 @@ module _ (world : List Domain) (answered : List Answered) (trees : AreTrees worl
   stays l was = record { reached = was.reached; begun = was.begun; parts = was.parts; rows = was.rows }
 
   -- the listener was there before, where the answer made none
-  no_more : (l : Listening) → slice_get (listeners answered ++ []) (id - 1) ≡ Some l → listener_at answered id ≡ Some l
-  no_more l at = ap (λ (ls : List Listening). slice_get ls (id - 1)) (sym (append-nil (listeners answered))) ∙ at
+  no_more : (l : Listening) → numbered (listeners answered ++ []) id ≡ Some l → listener_at answered id ≡ Some l
+  no_more l at = ap (λ (ls : List Listening). numbered ls id) (sym (append-nil (listeners answered))) ∙ at
 
   -- ---- a listen
 
@@ -119,22 +121,22 @@ module _ (world : List Domain) (answered : List Answered) (trees : AreTrees worl
       parts = if b then [] else told answered id;
     }
 
-    opens : (b : Bool) → nat_eq (length (listeners answered) + 1) id ≡ b → slice_get (listeners answered ++ made ∷ []) (id - 1) ≡ Some l
+    opens : (b : Bool) → nat_eq (length (listeners answered) + 1) id ≡ b → numbered (listeners answered ++ made ∷ []) id ≡ Some l
         → Next world answered id l (opening_of_it b)
     opens true is at =
         let place : id - 1 ≡ length (listeners answered) = omega (arith, eqb-true (length (listeners answered) + 1) id is) in
-        let same : made ≡ l = same_Some made l (sym (get_last (listeners answered) made) ∙ ap (slice_get (listeners answered ++ made ∷ [])) (sym place) ∙ at) in
+        let same : made ≡ l = same_Some made l (sym (get_last (listeners answered) made) ∙ ap (slice_get (listeners answered ++ made ∷ [])) (sym place) ∙ numbered-is (listeners answered ++ made ∷ []) id l at) in
         let none : 0 ≡ newest - newest = omega arith in
         let one : Next world answered id made (opening_of_it true) = record { reached = omega arith; begun = omega arith; parts = ap (parts_of world answered made newest) none; rows = refl } in
         subst (λ (x : Listening). Next world answered id x (opening_of_it true)) same one
-    opens false is at = stays l (was (get_before (listeners answered) made l (id - 1) other at))
+    opens false is at = stays l (was (numbered-at (listeners answered) id l (omega (arith, some)) (get_before (listeners answered) made l (id - 1) other (numbered-is (listeners answered ++ made ∷ []) id l at))))
       where
         other : id - 1 ≡ length (listeners answered) → ⊥
         other place =
             let same : length (listeners answered) + 1 ≡ id = omega (arith, some, place) in
             let yes : nat_eq (length (listeners answered) + 1) id ≡ true = eq-eqb (length (listeners answered) + 1) id same in cc
 
-    listened : (o : Option CallFault) → slice_get (listeners answered ++ cons_option (listens client (Listen domain s p) (refused_or o (listening world answered domain s p))) []) (id - 1) ≡ Some l
+    listened : (o : Option CallFault) → numbered (listeners answered ++ cons_option (listens client (Listen domain s p) (refused_or o (listening world answered domain s p))) []) id ≡ Some l
         → Next world answered id l (tell answered id (Listen domain s p) (refused_or o (listening world answered domain s p)))
     listened (Some fault) at = stays l (was (no_more l at))
     listened None at = opens (nat_eq (length (listeners answered) + 1) id) refl at
@@ -192,7 +194,7 @@ module _ (world : List Domain) (answered : List Answered) (trees : AreTrees worl
 
   module _ (l : Listening) (was : listener_at answered id ≡ Some l → IsFollowed world answered id l) (client : ℕ) where
     abbrev MadeBy : Call → Type 0
-    MadeBy call = slice_get (listeners answered ++ cons_option (listens client call (reply_to world answered client call)) []) (id - 1) ≡ Some l
+    MadeBy call = numbered (listeners answered ++ cons_option (listens client call (reply_to world answered client call)) []) id ≡ Some l
 
     abbrev NextBy : Call → Type 0
     NextBy call = Next world answered id l (tell answered id call (reply_to world answered client call))
@@ -237,7 +239,7 @@ module _ (world : List Domain) (trees : AreTrees world) where
   answered_next answered e was id l some made =
       let reply : Reply = reply_to world answered e.client e.call in
       let now : Answered = answered_as world answered e reply in
-      let at = sym (ap (λ (ls : List Listening). slice_get ls (id - 1)) (filter_map-append (λ (a : Answered). listens a.entry.client a.entry.call a.reply) answered (now ∷ []))) ∙ made in
+      let at = sym (ap (λ (ls : List Listening). numbered ls id) (filter_map-append (λ (a : Answered). listens a.entry.client a.entry.call a.reply) answered (now ∷ []))) ∙ made in
       let next : Next world answered id l (tell answered id e.call reply) = next_by world answered trees id some l (was.each id l some) e.client e.call at in
       let to : ℕ = unwrap_or (brings_to e.call reply id) (version answered id) in
       let from : ℕ = unwrap_or (opens_at e.call reply id) (opened_at answered id) in
@@ -265,7 +267,7 @@ module _ (world : List Domain) (trees : AreTrees world) where
   IsSound-fold answered (e ∷ log) was = IsSound-fold (answer world answered e) log (record { few = few_next world answered e was.few; each = answered_next answered e was })
 
   IsSound-history : (log : List Entry) → IsSound world (history world log)
-  IsSound-history log = IsSound-fold [] log (record { few = omega arith; each = λ id l some made. absurd (none (id - 1) l made) })
+  IsSound-history log = IsSound-fold [] log (record { few = omega arith; each = λ id l some made. absurd (none (id - 1) l (numbered-is (listeners []) id l made)) })
     where
       none : (i : ℕ) (l : Listening) → slice_get (listeners []) i ≡ Some l → ⊥
       none zero l made = cc

@@ -15,11 +15,13 @@ use Rattle.sal_history.specs.declared.call.Call.{Call}
 use Rattle.sal_history.specs.declared.call.Call.TheVariants.{Begin, OpenChain, ChainBegin, CloseChain, Submit, Cancel, Settle, Pump, Listen, Take, Unlisten, Provide, Withdraw, Invoke, NextCall, Answer, Collect, Subscribe, Offer, TakeNotes, Mount, Unmount, MountAt, Mark, After, Upgrade}
 use Rattle.sal_history.specs.declared.call.Entry.{Entry}
 use Rattle.sal_history.specs.Listeners.{Listening, listener_at, listeners, listens}
+use Rattle.sal_history.specs.Numbered.{numbered}
 use Rattle.sal_history.specs.Submissions.{Sent, done, done_ops}
 use Rattle.sal_schema.specs.declared.table.SchemaTable.{SchemaTable}
 use Rattle.sal_history.specs.Versions.{tables_now}
 use Rattle.sal_history.specs.World.{Domain, opening_of}
 use Rattle.sal_history.specs.History.{Answered, answer, answered_as, commits, decide_front, decide_next, decided_by, history, is_live, outcome, outcomes, reply_to, sents, trees_at}
+use Rattle.sal_history.proofs.Numbered.{numbered-more}
 use Rattle.sal_history.proofs.Waiting.{added}
 
 -- ---- lists
@@ -175,8 +177,8 @@ module _ (world : List Domain) (log more : List Entry) (domain : ℕ) where
 
 listener_left : (answered rest : List Answered) (id : ℕ) (l : Listening) → listener_at answered id ≡ Some l → listener_at (answered ++ rest) id ≡ Some l
 listener_left answered rest id l at =
-    ap (λ (ls : List Listening). slice_get ls (id - 1)) (filter_map-append (λ (a : Answered). listens a.entry.client a.entry.call a.reply) answered rest)
-    ∙ get_front (listeners answered) (listeners rest) (id - 1) l at
+    ap (λ (ls : List Listening). numbered ls id) (filter_map-append (λ (a : Answered). listens a.entry.client a.entry.call a.reply) answered rest)
+    ∙ numbered-more (listeners answered) (listeners rest) id l at
 
 -- a listener stays what it is
 pub listener_later : (world : List Domain) (log more : List Entry) (id : ℕ) (l : Listening) → listener_at (history world log) id ≡ Some l → listener_at (history world (log ++ more)) id ≡ Some l

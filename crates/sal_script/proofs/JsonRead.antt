@@ -1,5 +1,5 @@
 -- The values of a script that was read are JSON.
-use Rattle.std.proofs.Common.{◌≡◌, ℕ, zero, suc, ◌+◌, ◌<◌, true, List, [], ◌∷◌, length, map, get_or, codes, option_and_then, Some, Result, Ok, Err, refl, ap, ◌∙◌, subst, arith}
+use Rattle.std.proofs.Common.{◌≡◌, ℕ, zero, suc, ◌+◌, ◌<◌, ◌&&◌, true, List, [], ◌∷◌, length, map, get_or, codes, option_and_then, Some, Result, Ok, Err, refl, ap, ◌∙◌, subst, arith}
 use Rattle.std.proofs.lemmas.Bool.{and_from, and_parts}
 use Rattle.std.specs.List.{list_all}
 use Rattle.sal_types.specs.Reading.{◌>>=◌}
@@ -216,6 +216,12 @@ pub one_json : (vs : List Value) (i : ℕ) (v : Value) → i < length vs → v �
 one_json [] i v within at all = absurd (omega (arith, within))
 one_json (x ∷ vs) zero v within at all = ap (λ (w : Value). is_json (view w)) at ∙ (and_parts (is_json (view x)) (list_all is_json (map view vs)) all).0
 one_json (x ∷ vs) (suc i) v within at all = one_json vs i v (omega (arith, within)) at (and_parts (is_json (view x)) (list_all is_json (map view vs)) all).1
+
+-- the openings of domain 0
+pub own_read : (ms : Members) → HasJson ms → (own : OwnParts) → own_of ms ≡ Ok own → (is_json own.device.config && is_json own.device.operational) ≡ true
+own_read ms is own read =
+    let has : Given {F = List ℕ} IsJsonOwn (Ok own) = subst (Given IsJsonOwn) read (own_json ms is) in
+    and_from (is_json own.device.config) (is_json own.device.operational) ((tests_json own.device.config).1 has.config) ((tests_json own.device.operational).1 has.operational)
 
 -- the members of a device
 pub device_read : (d : Data) → is_json d ≡ true → (ms : Members) → or_bad (codes "devices") (members_of device_names d) ≡ Ok ms → HasJson ms

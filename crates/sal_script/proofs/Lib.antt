@@ -27,3 +27,4 @@ pub mod Reported
 pub mod ShortTexts
 pub mod Summed
 pub mod Tables
+pub mod Taken

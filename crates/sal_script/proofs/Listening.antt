@@ -1,6 +1,6 @@
 -- What a client's listeners keep along a log: the log has them, and none is ahead of it.
-use Rattle.std.proofs.Common.{◌≡◌, ℕ, ◌+◌, ◌-◌, Bool, true, false, List, [], ◌∷◌, ◌++◌, length, Option, None, Some, Result, Ok, Err, if◌then◌else◌, refl, ap, sym, ◌∙◌, subst, arith}
-use Rattle.std.specs.Prelude.{nat_eq, slice_get}
+use Rattle.std.proofs.Common.{◌≡◌, ℕ, ◌+◌, Bool, true, false, List, [], ◌∷◌, ◌++◌, length, Option, None, Some, Result, Ok, Err, if◌then◌else◌, refl, ap, sym, ◌∙◌, subst, arith}
+use Rattle.std.specs.Prelude.{nat_eq}
 use Rattle.std.specs.Option.{option_map, option_map_or}
 use Rattle.std.specs.List.{cons_option}
 use Rattle.std.proofs.lemmas.List.Elements.{filter_map-append}
@@ -16,8 +16,10 @@ use Rattle.sal_history.specs.declared.call.Entry.{Entry}
 use Rattle.sal_history.specs.declared.reply.Reply.{Reply}
 use Rattle.sal_history.specs.declared.reply.Reply.TheVariants.{Begun, Chain, Accepted as Done, Receipt, Refused, CallMade, Request}
 use Rattle.sal_history.specs.Listeners.{Listening, has_listener, listener_at, listeners, listens}
+use Rattle.sal_history.specs.Numbered.{numbered}
 use Rattle.sal_history.specs.World.{Domain}
 use Rattle.sal_history.specs.History.{Answered, answer, answered_as, batch_of, commits, history, listen_refusal, listening, refused_or, reply_to, taken}
+use Rattle.sal_history.proofs.Numbered.{numbered-last}
 use Rattle.sal_pathtext.specs.declared.fault.PathTextFault.{PathTextFault}
 use Rattle.sal_pathtext.specs.Read.{read_path}
 use Rattle.sal_script.specs.Moves.{Move, Begin, Put, Merge, Delete, Read, Exists, Submit, Cancel, Settle, OpenChain, ChainBegin, CloseChain, Pump, Listen, Take, Unlisten, Mirror, Provide, Withdraw, Invoke, NextCall, Answer, Collect, Subscribe, Offer, TakeNotes, Mount, Unmount, MountAt, Mark, After, Upgrade}
@@ -127,16 +129,9 @@ module _ (world : List Domain) (c : ℕ) (log : List Entry) (number : ℕ) (clie
         let now : Answered = answered_as world so_far (entry_of call) (reply_to world so_far c call) in
         let one : listens c call (reply_to world so_far c call) ≡ Some (record { client = c; domain = domain; store = store; path = p }) = ap (listens c call) is in
         ap (λ (answered : List Answered). listener_at answered id) (fold-append (answer world) [] log (entry_of call ∷ []))
-        ∙ ap (λ (ls : List Listening). slice_get ls (id - 1)) (filter_map-append (λ (a : Answered). listens a.entry.client a.entry.call a.reply) so_far (now ∷ []))
-        ∙ ap (λ (o : Option Listening). slice_get (listeners so_far ++ cons_option o []) (id - 1)) one
-        ∙ last (listeners so_far) (record { client = c; domain = domain; store = store; path = p })
-      where
-        last : (ls : List Listening) (l : Listening) → slice_get (ls ++ l ∷ []) (length ls + 1 - 1) ≡ Some l
-        last ls l = let place : length ls + 1 - 1 ≡ length ls = omega arith in ap (slice_get (ls ++ l ∷ [])) place ∙ end ls l
-          where
-            end : (xs : List Listening) (x : Listening) → slice_get (xs ++ x ∷ []) (length xs) ≡ Some x
-            end [] x = refl
-            end (y ∷ xs) x = end xs x
+        ∙ ap (λ (ls : List Listening). numbered ls id) (filter_map-append (λ (a : Answered). listens a.entry.client a.entry.call a.reply) so_far (now ∷ []))
+        ∙ ap (λ (o : Option Listening). numbered (listeners so_far ++ cons_option o []) id) one
+        ∙ numbered-last (listeners so_far) (record { client = c; domain = domain; store = store; path = p })
 
     listen_keeps : (o : Option CallFault) → reply_to world so_far c call ≡ refused_or o (listening world so_far domain store p) → KeepsBy call (Listen slot domain store text) (refused_or o (listening world so_far domain store p))
     listen_keeps (Some fault) is = unchanged call

@@ -1,4 +1,4 @@
--- Worked examples of clients along a log: what they left, and what they cannot have left.
+-- Worked examples of clients along a log: possible and impossible results.
 use Rattle.std.specs.Prelude.{ℕ, List, [], ◌∷◌, Option, None, codes}
 use Prim.Native.String.{String}
 use Rattle.sal_types.specs.declared.value.Store.TheVariants.{Config}
@@ -21,7 +21,7 @@ use Rattle.sal_script.specs.Moves.{Move, Begin, Submit, Cancel}
 use Rattle.sal_script.specs.Along.{PerformsAlong, Left, left_along}
 use Rattle.sal_script.specs.Examples.{entry, table, world_of}
 
--- what a client leaves along a log over the schema `plain` without openings
+-- the result of a client along a log over the schema `plain` without openings
 abbrev pub leaves_along : ℕ → List Entry → List Move → Option Left
 leaves_along c log steps = left_along ((table ∷ []) ∷ []) (world_of []) c log steps
 
@@ -49,7 +49,7 @@ abbrev pub second_replies : List StepReply
 second_replies =
     Called (answers.Begun 0 None) ∷ Accepted ∷ Called (answers.Receipt 2) ∷ Called (answers.Settled 0 (Conflict Config at_a Created 1)) ∷ []
 
--- ---- a client that refuses two of its shared steps by itself, and one that leaves a mark meanwhile
+-- ---- a client that refuses two of its shared steps itself, and one that sets a mark meanwhile
 
 abbrev pub refuses : List Move
 refuses = Begin 0 0 Ro ∷ Submit 0 ∷ Cancel 0 ∷ Cancel 0 ∷ []
@@ -60,7 +60,7 @@ refusing_log = entry 0 0 (called.Begin 0 Ro) ∷ entry 1 0 (called.Mark 7) ∷ e
 abbrev pub refusing_replies : List StepReply
 refusing_replies = Called (answers.Begun 0 None) ∷ Refused ReadOnly ∷ Called answers.Accepted ∷ Refused EmptySlot ∷ []
 
--- ---- a client that looks for a mark before and after another leaves it
+-- ---- a client that looks for a mark before and after another sets it
 
 abbrev pub marks_log : List Entry
 marks_log = entry 0 0 (called.After 7) ∷ entry 1 0 called.Pump ∷ entry 1 1 (called.Mark 7) ∷ entry 0 1 (called.After 7) ∷ []
@@ -71,7 +71,7 @@ looking_replies = Called answers.Late ∷ Called answers.Found ∷ []
 abbrev pub marking_replies : List StepReply
 marking_replies = Called answers.Nothing ∷ Called answers.Accepted ∷ []
 
--- it looks twice, and nobody leaves the mark
+-- it looks twice, and no client sets the mark
 abbrev pub two_looks : List Entry
 two_looks = entry 0 0 (called.After 7) ∷ entry 0 1 (called.After 7) ∷ []
 

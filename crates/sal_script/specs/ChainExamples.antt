@@ -16,7 +16,7 @@ abbrev pub on_pending_report : String
 on_pending_report = "order 0 0 0 0\n0 0 chain 1\n0 1 begun 0\n0 2 ok\n0 3 receipt 1\n0 4 begun 0 on 1\n0 5 data \"x\"\ntree 0 0 {} {}\n"
 
 -- A chain that begins while its transaction is open, is closed, and begins and closes again; its open transaction is submitted.
--- Its slot is never emptied, and another slot of a chain has nothing.
+-- Its slot is never emptied, and another chain slot is empty.
 abbrev pub closes : List Move
 closes =
     OpenChain 0 0 ∷ ChainBegin 0 0 Rw ∷ ChainBegin 0 1 Ro ∷ CloseChain 0 ∷ ChainBegin 0 1 Ro ∷ CloseChain 0 ∷ Submit 0 ∷ ChainBegin 1 1 Ro ∷ CloseChain 1 ∷ OpenChain 1 1 ∷ CloseChain 1 ∷ []
@@ -25,7 +25,7 @@ abbrev pub closes_report : String
 closes_report =
     "order 0 0 0 0 0 0 0 0\n0 0 chain 1\n0 1 begun 0\n0 2 refused previous-open\n0 3 ok\n0 4 refused chain-closed\n0 5 refused chain-closed\n0 6 receipt 1\n0 7 refused empty-slot\n0 8 refused empty-slot\n0 9 refused no-domain 1\n0 10 refused empty-slot\ntree 0 0 {} {}\n"
 
--- a client that looks for a mark before and after another leaves it
+-- a client that looks for a mark before and after another sets it
 abbrev pub looks : List Move
 looks = After 7 ∷ After 7 ∷ []
 

@@ -1,4 +1,4 @@
--- What a transaction whose reads are checked has read is known to its operations, and stays so until it is submitted.
+-- The paths that a transaction with checked reads read are known to its operations until it is submitted.
 use Rattle.std.specs.Prelude.{◌≡◌, ℕ, true, List, ◌++◌, Some, Ok}
 use Rattle.sal_types.specs.declared.value.Store.{Store}
 use Rattle.sal_types.specs.declared.value.Step.{Step}
@@ -19,12 +19,12 @@ use Rattle.sal_script.specs.Moves.{Move}
 use Rattle.sal_script.specs.Play.{Client, Meeting, Open, local, look, meet, seen_by, with_ops, write_op}
 use Rattle.sal_script.specs.Tables.{Versions}
 
--- The client answered so by itself. The transaction in the slot has read the path, which is known to its operations then.
+-- The client did this local step. The transaction in the slot has read the path, which is then known to its operations.
 pub record Answers (slot : ℕ) (store : Store) (path : List Step) (tx : Open) (client : Client) (r : StepReply) (met : Meeting) : Type 0 where
   pub answered : met ≡ local r (with_ops slot (recorded Checked store path tx.ops) tx client)
   pub known : is_known (recorded Checked store path tx.ops) store path ≡ true
 
--- A look at a path is answered by what the transaction sees. The path is known then.
+-- The reply to a read of a path is from the rows that the transaction sees. The path is then known.
 abbrev pub LooksAreKnown : Type 0
 LooksAreKnown =
     (table : SchemaTable) (world : List Domain) (log : List Entry) (f : Open → List Step → List Row → StepReply) (slot : ℕ) (store : Store) (text : List ℕ) (path : List Step) (client : Client) (tx : Open)
@@ -38,7 +38,7 @@ MissedParentsAreKnown =
     → tx.mode ≡ Checked → refusal table (seen_by world log tx op.store) op ≡ Some (ParentMissing parent)
     → Answers slot op.store parent tx client (Refused (Write tx.domain (ParentMissing parent))) (write_op table world log slot op tx client)
 
--- What is known stays known in longer lists.
+-- A known path stays known in longer lists.
 abbrev pub KnownStays : Type 0
 KnownStays = (ops more : List Op) (store : Store) (path : List Step) → is_known ops store path ≡ true → is_known (ops ++ more) store path ≡ true
 
@@ -47,8 +47,8 @@ pub record Grows (tx new : Open) : Type 0 where
   pub more : List Op
   pub same : new ≡ record tx { ops = tx.ops ++ more }
 
--- Whatever a client answers by itself: each of its transactions stays, and gets further operations at most. So it is submitted with all
--- that it read.
+-- For each local step of a client: each of its transactions stays, and gets at most further operations. So it is submitted with all
+-- its reads.
 abbrev pub TransactionsGrow : Type 0
 TransactionsGrow =
     (tables : List Versions) (world : List Domain) (log : List Entry) (client next : Client) (step : Move) (r : StepReply)

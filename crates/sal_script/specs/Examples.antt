@@ -112,7 +112,7 @@ abbrev pub different_leafs_report : String
 different_leafs_report =
     "order 0 1 0 0 1 1\n0 0 begun 0\n0 1 ok\n0 2 receipt 1\n0 3 done 1\n1 0 begun 0\n1 1 ok\n1 2 receipt 2\n1 3 done 2\ntree 0 2 {\"plain:box\":{\"a\":\"x\",\"b\":\"y\"}} {}\n"
 
--- a client that looks at a tree with an opening value, and at what is not there
+-- a client that reads a tree with an opening value, and absent paths
 abbrev pub looks : List Move
 looks =
     Begin 0 0 Ro ∷ read 0 "/" ∷ Exists 0 Config (codes "/plain:box") ∷ Exists 0 Config (codes b) ∷ read 0 "/plain:box/i" ∷ read 0 "plain" ∷ []
@@ -150,7 +150,7 @@ abbrev pub one_sided_report : String
 one_sided_report =
     "order 0 0 0 0\n0 0 begun 0\n0 1 refused write-only\n0 2 refused write-only\n0 3 ok\n0 4 receipt 1\n0 5 done 1\n0 6 begun 1\n0 7 refused read-only\n0 8 refused read-only\ntree 0 1 {\"plain:box\":{\"a\":\"x\"}} {}\n"
 
--- writes that are refused: at the root, at what is no path, and of what is no data; a refused write leaves nothing
+-- refused writes: at the root, at a text that is no path, and of a value that is no data; a refused write changes nothing
 abbrev pub refused_writes : List Move
 refused_writes =
     begin ∷ delete "/" ∷ Put 0 Config (codes "/") (object no_members) ∷ merge "/plain:box/i" "x" ∷ Put 0 Config (codes a) (object no_members)
@@ -162,7 +162,7 @@ refused_writes_report =
 
 -- ---- shared calls
 
--- a client that submits twice: the second time it has nothing to submit, and makes no call
+-- a client that submits twice: the second time the slot is empty, and it makes no call
 abbrev pub submits_twice : List Move
 submits_twice = begin ∷ put a "x" ∷ Submit 0 ∷ Submit 0 ∷ []
 
@@ -172,7 +172,7 @@ submits_twice_replies = Called (Begun 0 None) ∷ Accepted ∷ Called (Receipt 1
 abbrev pub submits_twice_calls : List Exchange
 submits_twice_calls = record { kind = Some (orders.begins 0 Rw); reply = Begun 0 None } ∷ record { kind = Some orders.submits; reply = Receipt 1 } ∷ []
 
--- two clients begin, and client 1 cancels what it began
+-- two clients begin, and client 1 cancels its transaction
 abbrev pub entry : ℕ → ℕ → Call → Entry
 entry client number call = record { client = client; number = number; call = call }
 

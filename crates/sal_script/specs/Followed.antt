@@ -1,4 +1,4 @@
--- What a client that took everything has of a listener, said of the answers in a log alone.
+-- The rows and parts of a listener whose client took every batch, from the replies of a log.
 use Rattle.std.specs.Prelude.{◌≡◌, ℕ, ◌-◌, ◌≤◌, List, [], ◌++◌, Option, None, Some, length, if◌then◌else◌, nat_eq, unwrap_or}
 use Rattle.std.specs.List.{fold}
 use Rattle.sal_types.specs.declared.value.Store.{Store}
@@ -17,27 +17,27 @@ use Rattle.sal_history.specs.Listeners.{Listening, listener_at, version}
 use Rattle.sal_history.specs.World.{Domain, opening_of, last_of}
 use Rattle.sal_history.specs.History.{Answered, commits, history, trees_at}
 
--- the rows of the listener after a call with this answer: those of its opening, or those that it had with the parts of a batch
+-- the rows of the listener after a call with this reply: those of its opening, or the earlier ones with the parts of a batch applied
 abbrev pub follows : Call → Reply → ℕ → List Row → List Row
 follows (Listen domain store path) (Listener n at p opened) id rows = if nat_eq n id then opened.rows else rows
 follows (Take n) (Told domain batch) id rows = if nat_eq n id then with_parts rows batch.lists else rows
 follows call reply id rows = rows
 
--- the rows that its answers gave, in order
+-- the rows by its replies, in order
 abbrev pub followed : List Answered → ℕ → List Row
 followed answered id = fold (λ rows a. follows a.entry.call a.reply id rows) [] answered
 
--- the parts that the listener was given after a call with this answer: none yet at its opening, and those of a batch after those before
+-- the parts of the listener after a call with this reply: none at its opening, and those of a batch after the earlier ones
 abbrev pub tells : Call → Reply → ℕ → List Part → List Part
 tells (Listen domain store path) (Listener n at p opened) id parts = if nat_eq n id then [] else parts
 tells (Take n) (Told domain batch) id parts = if nat_eq n id then parts ++ batch.lists else parts
 tells call reply id parts = parts
 
--- the parts that its answers gave, in order
+-- the parts of its replies, in order
 abbrev pub told : List Answered → ℕ → List Part
 told answered id = fold (λ parts a. tells a.entry.call a.reply id parts) [] answered
 
--- the commit at which a call with this answer opened the listener
+-- the commit at which a call with this reply opened the listener
 abbrev pub opens_at : Call → Reply → ℕ → Option ℕ
 opens_at (Listen domain store path) (Listener n at p opened) id = if nat_eq n id then Some opened.version else None
 opens_at call reply id = None
@@ -54,8 +54,8 @@ parts_of world answered l k n = parts_after (has_own_row (last_of world l.domain
 abbrev pub AreTrees : List Domain → Type 0
 AreTrees world = (domain : ℕ) (store : Store) → IsAscending (opening_of world domain store)
 
--- The version of the listener is a commit that there is, not before its opening. The rows that its answers gave are those under
--- its path there, and the parts that they gave are those of all commits since the opening, each once and in order.
+-- The version of the listener is an existing commit, not before its opening. The rows by its replies are those under
+-- its path there, and the parts are those of all commits since the opening, each once and in order.
 pub record IsFollowed (world : List Domain) (answered : List Answered) (id : ℕ) (l : Listening) : Type 0 where
   pub reached : version answered id ≤ length (commits answered l.domain)
   pub begun : opened_at answered id ≤ version answered id

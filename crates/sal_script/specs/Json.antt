@@ -1,4 +1,4 @@
--- Looking into JSON data (RFC 8259), as lists.
+-- Parts of JSON data (RFC 8259), as lists.
 use Rattle.std.specs.Prelude.{ℕ, ◌==◌, Bool, true, ◌&&◌, List, [], ◌∷◌, length, Option, None, Some, option_and_then, if◌then◌else◌, nat_lt}
 use Rattle.std.specs.List.{list_any}
 use Rattle.std.specs.Str.Lossy.{utf8_valid_len}
@@ -20,7 +20,7 @@ abbrev pub all_named : List (List ℕ) → Members → Bool
 all_named names no_members = true
 all_named names (member k d ms) = list_any (text_eq k) names && all_named names ms
 
--- the number, where it is below the limit
+-- the number, if it is below the limit
 abbrev pub below : ℕ → ℕ → Option ℕ
 below limit n = if nat_lt n limit then Some n else None
 

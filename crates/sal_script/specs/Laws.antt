@@ -1,4 +1,4 @@
--- What was read from a script's bytes fits the schema.
+-- The values of a script fit the schema.
 use Rattle.std.specs.Prelude.{◌≡◌, ℕ, List, [], Some, Ok, IsTrue, slice_get}
 use Rattle.sal_types.specs.declared.value.Store.{Store}
 use Rattle.sal_types.specs.declared.value.Step.{Step}
@@ -14,16 +14,16 @@ use Rattle.sal_script.specs.Script.{DeviceParts, Parts, script_of}
 use Rattle.sal_script.specs.JsonScripts.{IsJsonScript, is_json_act}
 use Rattle.sal_script.specs.Play.{DataAct, act_of, op_of}
 
--- Whatever bytes: the values of a script that is read from them are JSON as texts have it.
+-- For any bytes: the values of a script that is read from them are JSON as texts have it.
 abbrev pub ScriptsAreJson : Type 0
 ScriptsAreJson = (bytes : List ℕ) (parts : Parts) → script_of bytes ≡ Ok parts → IsJsonScript parts
 
--- the rows that the openings of a domain denote are whole: they fit the schema, and what is written for them reads as the same
+-- the rows that the openings of a domain denote are whole: they fit the schema, and their JSON values read as the same
 -- rows
 abbrev pub HasWholeOpenings : SchemaTable → DeviceParts → Type 0
 HasWholeOpenings table device = (rows : List Row) → (read_data table [] device.config ≡ Ok rows → IsWhole table [] rows) × (read_data table [] device.operational ≡ Ok rows → IsWhole table [] rows)
 
--- what domain 0 has of a script
+-- domain 0 of a script
 abbrev pub own : Parts → DeviceParts
 own parts = record { modules = parts.modules; config = parts.config; operational = parts.operational }
 

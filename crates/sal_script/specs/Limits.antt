@@ -1,4 +1,4 @@
--- How large a script is.
+-- The limits of a script.
 use Rattle.std.specs.Prelude.{ℕ, Bool, ◌&&◌, ◌^◌, List, ◌++◌, length, nat_le, nat_lt}
 use Rattle.std.specs.List.{flat_map, list_all, sum_by}
 
@@ -14,6 +14,6 @@ are_few devices = nat_le (length devices) 63
 abbrev pub are_short : List (List ℕ) → Bool
 are_short texts = nat_lt (sum_by length texts) (2 ^ 32)
 
--- the texts of the first modules, and then those of each upgrade
+-- the texts of the first modules, then those of each upgrade
 abbrev pub all_texts : List (List ℕ) → List (List (List ℕ)) → List (List ℕ)
 all_texts modules upgrades = modules ++ flat_map (λ texts. texts) upgrades

@@ -41,7 +41,7 @@ entry_data key value = object (member (codes "k") (number (unsigned key)) (membe
 abbrev pub round_of : ℕ → ℕ → List Move
 round_of key value = Begin 0 0 Rw ∷ Put 0 Config (entry_path key) (entry_data key value) ∷ Submit 0 ∷ Settle 0 ∷ []
 
--- so many rounds of a client
+-- this many rounds of a client
 abbrev pub program_of : ℕ → ℕ → ℕ → List Move
 program_of start client zero = []
 program_of start client (suc round) = program_of start client round ++ round_of (key_of client round) (value_in start client round)
@@ -65,7 +65,7 @@ parts_of rounds start = record {
 
 -- ---- the summary
 
--- What is counted at the end: the calls of the log, the commits, the rows of the configuration, and the sum of all `v` there.
+-- The numbers at the end: the calls of the log, the commits, the rows of the configuration, and the sum of all `v` there.
 pub record Totals : Type 0 where
   pub calls : ℕ
   pub commits : ℕ
@@ -81,11 +81,11 @@ abbrev pub number_at : Cell → Step → ℕ
 number_at (Leaf value) (Node n) = if nat_eq n 2 then unsigned_of value.atom else 0
 number_at cell step = 0
 
--- the number of a leaf `v`; of each other row 0
+-- the number of a leaf `v`; 0 for each other row
 abbrev pub number_of : Row → ℕ
 number_of row = option_map_or (number_at row.cell) (last_step row.path) 0
 
--- those of a log and of what its domain has at the end
+-- those of a log and of its domain's trees at the end
 abbrev pub totals_of : List Entry → DomainTrees → Totals
 totals_of log trees = record { calls = length log; commits = trees.commits; rows = length trees.config; values = sum_by number_of trees.config }
 
@@ -96,6 +96,6 @@ count_line word n = codes word ++ (words.number n ++ (10 ∷ []))
 abbrev pub totals_text : Totals → List ℕ
 totals_text totals = count_line "calls" totals.calls ++ (count_line "commits" totals.commits ++ (count_line "rows" totals.rows ++ count_line "sum" totals.values))
 
--- the line of the words, and those of what is counted
+-- the line of the command's words, and the lines of the totals
 abbrev pub summary_of : ℕ → ℕ → Totals → List ℕ
 summary_of rounds start totals = (codes "load" ++ (words.number rounds ++ (words.number start ++ (10 ∷ [])))) ++ totals_text totals

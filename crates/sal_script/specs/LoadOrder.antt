@@ -20,7 +20,7 @@ pub record IsSummaryInSomeOrder (world : List Domain) (rounds start : ℕ) (text
   pub plays : play world (clients_of rounds start) order ≡ Ok played
   pub written : text ≡ summary rounds start world played
 
--- the summary of what a load's clients left is one
+-- the summary of a load's clients is one
 abbrev pub LeftIsSummed : Type 0
 LeftIsSummed =
     (world : List Domain) (rounds start : ℕ) (log : List Entry) (replies : List (List StepReply))

@@ -11,7 +11,7 @@ use Rattle.sal_script.specs.BatchData.{list_data}
 use Rattle.sal_script.specs.Messages.{message_at}
 
 module _ (table : SchemaTable) where
-  -- the name of a node with that of its module, both empty where the schema has no node of that number
+  -- the name of a node with that of its module, both empty if the schema has no node of that number
   abbrev pub node_text : ℕ → List ℕ
   node_text n = option_map_or (module_name table) (module_of table n) [] ++ (58 ∷ name_of table n)
 

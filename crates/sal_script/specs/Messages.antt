@@ -1,4 +1,4 @@
--- RPCs and notifications by the names that a script gives them, and the place of their data (RFC 7950 sections 7.14 and 7.16).
+-- RPCs and notifications by their names in a script, and the place of their data (RFC 7950 sections 7.14 and 7.16).
 use Rattle.std.specs.Prelude.{ℕ, List, [], ◌∷◌, Option, Some, None, if◌then◌else◌, slice_get, unwrap_or}
 use Rattle.std.specs.List.{before_first, after_first}
 use Rattle.sal_types.specs.declared.value.Step.{Step}

@@ -1,4 +1,4 @@
--- The steps of a client as the definitions have them: a value is the JSON data that it denotes.
+-- The steps of a client in the definitions' form: a value is the JSON data that it denotes.
 use Rattle.std.specs.Prelude.{ℕ, List, Option, map}
 use Rattle.sal_types.specs.declared.value.Store.{Store}
 use Rattle.sal_rows.specs.declared.outcome.Mode.{Mode}
@@ -41,7 +41,7 @@ pub data Move : Type 0 where
   After : ℕ → Move
   Upgrade : ℕ → Move
 
--- what a step of a script says
+-- the move of a step of a script
 abbrev pub move_of : ScriptStep → Move
 move_of (given.Begin slot domain mode) = Begin slot domain mode
 move_of (given.Put slot store path value) = Put slot store path (view value)

@@ -1,4 +1,4 @@
--- What clients left is one order: the script, played in the order of the log that they left, has that log and their replies.
+-- The result of clients is one order: the script, played in the order of their log, has that log and their replies.
 use Rattle.std.specs.Prelude.{◌≡◌, ◌≤◌, ℕ, List, Ok, IsTrue, length}
 use Rattle.sal_history.specs.declared.call.Entry.{Entry}
 use Rattle.sal_history.specs.World.{Domain}
@@ -16,17 +16,17 @@ pub record IsOneOrder (world : List Domain) (clients : List (List Move)) (log : 
   pub legal : IsLegal world clients (order_of log)
   pub follows : Follows world clients (order_of log) (record { log = log; replies = replies })
 
--- what clients left is one order
+-- the result of clients is one order
 abbrev pub LeftIsOneOrder : Type 0
 LeftIsOneOrder = (world : List Domain) (clients : List (List Move)) (log : List Entry) (replies : List (List StepReply)) → AreLogOf world clients log replies → IsOneOrder world clients log replies
 
--- and what is played in an order is what its clients can leave
+-- and a play in an order is a possible result of its clients
 abbrev pub PlayedCanBeLeft : Type 0
 PlayedCanBeLeft =
     (world : List Domain) (clients : List (List Move)) (order : List ℕ) (played : Played) → play world clients order ≡ Ok played
     → (order_of played.log ≡ order) × AreLogOf world clients played.log played.replies
 
--- what the clients of a script left is shorter than a history may be: they make at most one shared call for each step
+-- the log of a script's clients is shorter than the limit: they make at most one shared call for each step
 abbrev pub LeftIsShort : Type 0
 LeftIsShort =
     (world : List Domain) (clients : List (List Move)) (log : List Entry) (replies : List (List StepReply))

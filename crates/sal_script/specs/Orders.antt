@@ -1,4 +1,4 @@
--- What a legal order is: the log of the played script is in that order, and has the shared calls of each client, each once
+-- Legal orders: the log of the played script is in that order, and has the shared calls of each client, each once
 -- and in the client's own order.
 use Rattle.std.specs.Prelude.{◌≡◌, ℕ, ◌<◌, ◌≤◌, List, [], ◌∷◌, ◌++◌, length, map, take, Option, None, Some, Ok, Err, if◌then◌else◌, nat_eq, slice_get, flat_map, ◌⊎◌}
 use Rattle.sal_types.specs.declared.value.Store.{Store}
@@ -15,7 +15,7 @@ use Rattle.sal_script.specs.Moves as asked
 use Rattle.sal_script.specs.Moves.{Move}
 use Rattle.sal_script.specs.Play.{IsLegal, Played, play}
 
--- what a shared call does, as far as its step says
+-- the kind of a shared call, as far as its step determines it
 pub data Kind : Type 0 where
   begins : ℕ → Mode → Kind
   submits : Kind
@@ -44,7 +44,7 @@ pub data Kind : Type 0 where
   looks_after : ℕ → Kind
   upgrades : ℕ → Kind
 
--- the kind of call that a step can make; none where the client always answers by itself
+-- the kind of call that a step can make; none if the step is always local
 abbrev pub kind_of_step : Move → Option Kind
 kind_of_step (asked.Begin slot domain mode) = Some (begins domain mode)
 kind_of_step (asked.Submit slot) = Some submits
@@ -102,12 +102,12 @@ kind_of_call (made.Mark mark) = leaves_mark mark
 kind_of_call (made.After mark) = looks_after mark
 kind_of_call (made.Upgrade version) = upgrades version
 
--- a shared call and its answer
+-- a shared call and its reply
 pub record Exchange : Type 0 where
   pub kind : Option Kind
   pub reply : Reply
 
--- a step that is answered by a shared call
+-- a step with a shared call
 abbrev pub exchange_at : Move → StepReply → List Exchange
 exchange_at step (Called r) = record { kind = kind_of_step step; reply = r } ∷ []
 exchange_at step r = []
@@ -118,7 +118,7 @@ exchanges_of [] rs = []
 exchanges_of (step ∷ steps) [] = []
 exchanges_of (step ∷ steps) (r ∷ rs) = exchange_at step r ++ exchanges_of steps rs
 
--- the entries of a client, each with the answer that the log gives it
+-- the entries of a client, each with its reply by the log
 abbrev pub exchange_by : ℕ → Answered → List Exchange
 exchange_by client a = if nat_eq a.entry.client client then record { kind = Some (kind_of_call a.entry.call); reply = a.reply } ∷ [] else []
 
@@ -129,8 +129,8 @@ exchanges_in world log client = flat_map (exchange_by client) (history world log
 abbrev pub IsNumbered : List Entry → Type 0
 IsNumbered log = (i : ℕ) (e : Entry) → slice_get log i ≡ Some e → e.number ≡ entries_of (take i log) e.client
 
--- Each step of the client is answered once, and its shared calls are its entries in the log, in order: of the same kind, and
--- with the answers that the log gives.
+-- Each step of the client has one reply, and its shared calls are its entries in the log, in order: of the same kind, and
+-- with the replies by the log.
 pub record IsAnswered (world : List Domain) (log : List Entry) (client : ℕ) (steps : List Move) (replies : List StepReply) : Type 0 where
   pub answered : length replies ≡ length steps
   pub called : exchanges_of steps replies ≡ exchanges_in world log client
@@ -143,7 +143,7 @@ pub record Follows (world : List Domain) (clients : List (List Move)) (order : L
   pub all : length played.replies ≡ length clients
   pub each : (client : ℕ) (steps : List Move) (replies : List StepReply) → slice_get clients client ≡ Some steps → slice_get played.replies client ≡ Some replies → IsAnswered world played.log client steps replies
 
--- what is played follows its order
+-- a play follows its order
 abbrev pub PlaysFollow : Type 0
 PlaysFollow = (world : List Domain) (clients : List (List Move)) (order : List ℕ) (played : Played) → play world clients order ≡ Ok played → Follows world clients order played
 

@@ -1,5 +1,5 @@
--- What a script does in an order: each number of the order lets that client proceed to its next shared call, which is
--- then made and answered by the log; at the end each client answers the local steps that are left.
+-- The play of a script in an order: for each number of the order that client proceeds to its next shared call, which is
+-- then made, with the reply by the log; at the end each client does its remaining local steps.
 use Rattle.std.specs.Prelude.{ℕ, ◌+◌, Bool, List, [], ◌∷◌, ◌++◌, length, map, Option, None, Some, Result, Ok, Err, IsOk, if◌then◌else◌, nat_eq, slice_get}
 use Rattle.std.specs.List.{slice_set}
 use Rattle.std.specs.Option.{option_map, option_map_or}
@@ -41,7 +41,7 @@ use Rattle.sal_script.specs.Services.{Invocation, OrRefusal, answer, collect, in
 
 -- ---- clients
 
--- a client's transaction: where it began in the log, its domain, the version of the domain's schema there, its mode, and its operations so far
+-- a client's transaction: its index in the log, its domain, the version of the domain's schema there, its mode, and its operations so far
 pub record Open : Type 0 where
   pub place : ℕ
   pub domain : ℕ
@@ -54,7 +54,7 @@ pub record Opened : Type 0 where
   pub id : ℕ
   pub domain : ℕ
 
--- a listener that the client made: its id, what it listens to, and the version that was taken last
+-- a listener of the client: its id, its domain, store and path, and the version of its last batch
 pub record Listener : Type 0 where
   pub id : ℕ
   pub domain : ℕ
@@ -62,14 +62,14 @@ pub record Listener : Type 0 where
   pub path : List Step
   pub version : ℕ
 
--- what each slot holds
+-- the value of each slot
 abbrev pub Slots : Type 0 → Type 0
 Slots A = ℕ → Option A
 
 abbrev pub set_slot : {A : Type 0} → ℕ → Option A → Slots A → Slots A
 set_slot slot x slots = λ k. if nat_eq k slot then x else slots k
 
--- a client: its slots, for requests those of the ids of what it made and of what it was handed, and the replies to its steps
+-- a client: its slots, for requests those of the ids that it made and of those that it took, and the replies to its steps
 -- so far
 pub record Client : Type 0 where
   pub transactions : Slots Open
@@ -83,11 +83,11 @@ pub record Client : Type 0 where
 abbrev pub new_client : Client
 new_client = record { transactions = λ k. None; receipts = λ k. None; chains = λ k. None; listeners = λ k. None; invoked = λ k. None; handed = λ k. None; replies = [] }
 
--- one step more is answered
+-- one more step has a reply
 abbrev pub replied : StepReply → Client → Client
 replied r client = record client { replies = client.replies ++ r ∷ [] }
 
--- the result of a step: an answer at once, or a shared call
+-- the result of a step: a reply at once, or a shared call
 pub data Meeting : Type 0 where
   local : StepReply → Client → Meeting
   shared : Call → Meeting
@@ -100,11 +100,11 @@ abbrev pub ask : OrRefusal Call → Client → Meeting
 ask (Err refusal) client = refused refusal client
 ask (Ok call) client = shared call
 
--- the table by which paths and values are read in a transaction: that of the version that was present where it began
+-- the table by which paths and values are read in a transaction: that of the version that was present at its begin
 abbrev pub table_for : List Versions → Option Open → SchemaTable
 table_for tables tx = option_map_or (λ (o : Open). table_at tables o.version o.domain) tx no_table
 
--- what a write does at its path, with a value that is not yet read
+-- the act of a write at its path, with a value that is not yet read
 pub data DataAct : Type 0 where
   putting : Data → DataAct
   merging : Data → DataAct
@@ -123,11 +123,11 @@ op_of store path act = record { store = store; path = path; act = act }
 abbrev pub with_ops : ℕ → List Op → Open → Client → Client
 with_ops slot ops tx client = record client { transactions = set_slot slot (Some (record tx { ops = ops })) client.transactions }
 
--- a write that the transaction takes is one more of its operations
+-- a write that the transaction accepts is one more of its operations
 abbrev pub accept : ℕ → Op → Open → Client → Meeting
 accept slot op tx client = local Accepted (with_ops slot (tx.ops ++ op ∷ []) tx client)
 
--- the operations after a write to the store that is refused so: it has read the parent that is missing
+-- the operations after a write to the store with this refusal: the missing parent is read
 abbrev pub after_refusal : TxFault → Mode → Store → List Op → List Op
 after_refusal (ParentMissing path) mode store ops = recorded mode store path ops
 after_refusal fault mode store ops = ops
@@ -164,7 +164,7 @@ abbrev pub listen_at : ℕ → Store → Result (List Step) PathTextFault → Cl
 listen_at domain store (Err fault) client = refused (BadPath fault) client
 listen_at domain store (Ok path) client = shared (made.Listen domain store path)
 
--- a listen: the first refusal counts, of the domain, and then of the path
+-- a listen: the first refusal is returned, of the domain, then of the path
 abbrev pub listen : List Versions → ℕ → Store → Result (List Step) PathTextFault → Client → Meeting
 listen tables domain store path client = if has_domain tables domain then listen_at domain store path client else refused NoDevice client
 
@@ -180,21 +180,21 @@ abbrev pub unlisten : Client → Option Listener → Meeting
 unlisten client None = refused EmptySlot client
 unlisten client (Some listener) = shared (made.Unlisten listener.id)
 
--- what a transaction of this mode answers to a look: one that only writes refuses
+-- the reply of a transaction of this mode to a read: one that only writes refuses
 abbrev pub look_reply : Mode → ℕ → StepReply → StepReply
 look_reply Wo domain r = Refused (Write domain WriteOnly)
 look_reply mode domain r = r
 
--- a look at a path; if the reads of the transaction are checked, it has read the path
+-- a read of a path; if the reads of the transaction are checked, it is recorded
 abbrev pub look_in : ℕ → Store → List Step → Open → StepReply → Client → Meeting
 look_in slot store path tx r client = local (look_reply tx.mode tx.domain r) (with_ops slot (recorded tx.mode store path tx.ops) tx client)
 
--- a look at the path that a text denotes; f answers what is there
+-- a read of the path that a text denotes; f gives the reply
 abbrev pub look_at : (List Step → StepReply) → ℕ → Store → Result (List Step) PathTextFault → Open → Client → Meeting
 look_at f slot store (Err fault) tx client = refused (BadPath fault) client
 look_at f slot store (Ok path) tx client = look_in slot store path tx (f path) client
 
--- a read answers the rows at the path and below it
+-- the reply to a read has the rows at and below the path
 abbrev pub rows_read : Open → List Step → List Row → StepReply
 rows_read tx path rows = ReadReply tx.domain path (under rows path)
 
@@ -202,11 +202,11 @@ abbrev pub found : Open → List Step → List Row → StepReply
 found tx path rows = ExistsReply (has rows path)
 
 module _ (world : List Domain) (log : List Entry) where
-  -- what a transaction sees of a store, under its own writes
+  -- the rows of a store that a transaction sees, with its own writes applied
   abbrev pub seen_by : Open → Store → List Row
   seen_by tx store = view world log tx.place tx.ops store
 
-  -- what was committed at the listener's path and below it, at the version that was taken last
+  -- the rows that were committed at and below the listener's path, at the version of its last batch
   abbrev pub mirrored : Listener → List Row
   mirrored listener = under (trees_at world (history world log) listener.domain listener.store listener.version) listener.path
 
@@ -215,16 +215,16 @@ module _ (world : List Domain) (log : List Entry) where
   mirror client (Some listener) = local (MirrorReply listener.domain listener.path listener.version (mirrored listener)) client
 
 module _ (table : SchemaTable) (world : List Domain) (log : List Entry) where
-  -- ---- looks
+  -- ---- reads
 
-  -- a look into the view of a transaction; f answers from its rows
+  -- a read in the view of a transaction; f gives the reply from its rows
   abbrev pub look : (Open → List Step → List Row → StepReply) → ℕ → Store → List ℕ → Client → Option Open → Meeting
   look f slot store text client None = refused EmptySlot client
   look f slot store text client (Some tx) = look_at (λ path. f tx path (seen_by world log tx store)) slot store (read_path table text) tx client
 
   -- ---- writes
 
-  -- the operation is refused over what the transaction sees, or taken
+  -- the operation is refused over the rows that the transaction sees, or accepted
   abbrev pub write_op : ℕ → Op → Open → Client → Meeting
   write_op slot op tx client = accept_unless (refusal table (seen_by world log tx op.store) op) slot op tx client
 
@@ -240,21 +240,21 @@ module _ (table : SchemaTable) (world : List Domain) (log : List Entry) where
   write_in Ro slot store text data_act tx client = refused ReadOnly client
   write_in mode slot store text data_act tx client = write_at slot store (read_path table text) data_act tx client
 
-  -- A write: the first refusal counts, of the slot, the mode, the path, the value, and then of the transaction: the root, a
-  -- key leaf, state data in the configuration, a parent that is missing.
+  -- A write: the first refusal is returned, of the slot, the mode, the path, the value, then of the transaction: the root, a
+  -- key leaf, state data in the configuration, a missing parent.
   abbrev pub write : ℕ → Store → List ℕ → DataAct → Client → Option Open → Meeting
   write slot store text data_act client None = refused EmptySlot client
   write slot store text data_act client (Some tx) = write_in tx.mode slot store text data_act tx client
 
 module _ (tables : List Versions) (world : List Domain) (log : List Entry) where
-  -- by the version of the transaction's domain where it began
+  -- by the version of the transaction's domain at its begin
   abbrev pub write_with : ℕ → Store → List ℕ → DataAct → Client → Option Open → Meeting
   write_with slot store text data_act client tx = write (table_for tables tx) world log slot store text data_act client tx
 
   abbrev pub look_with : (Open → List Step → List Row → StepReply) → ℕ → Store → List ℕ → Client → Option Open → Meeting
   look_with f slot store text client tx = look (table_for tables tx) world log f slot store text client tx
 
-  -- The result of a client's step after the log. What a listener, an RPC, a notification or a mount names is read by the last version.
+  -- The result of a client's step after the log. The arguments of listeners, RPCs, notifications and mounts are read by the last version.
   abbrev pub meet : Client → Move → Meeting
   meet client (Begin slot domain mode) = shared (made.Begin domain mode)
   meet client (Put slot store path value) = write_with slot store path (putting value) client (client.transactions slot)
@@ -289,7 +289,7 @@ module _ (tables : List Versions) (world : List Domain) (log : List Entry) where
   meet client (After mark) = shared (made.After mark)
   meet client (Upgrade version) = upgrade tables version client
 
--- a place of the log: how many entries are before it, and the version of domain 0's schema there
+-- a place of the log: the number of entries before it, and the version of domain 0's schema there
 pub record Spot : Type 0 where
   pub place : ℕ
   pub version : ℕ
@@ -298,7 +298,7 @@ pub record Spot : Type 0 where
 abbrev pub spot_after : List Domain → List Entry → Spot
 spot_after world log = record { place = length log; version = schema_version (history world log) }
 
--- the version of a domain's schema where domain 0 has this one: every other domain has its one schema
+-- the version of a domain's schema if domain 0 has this one: every other domain has one version
 abbrev pub version_for : ℕ → ℕ → ℕ
 version_for domain version = if nat_eq domain 0 then version else 0
 
@@ -307,7 +307,7 @@ abbrev pub keep_begun : ℕ → Spot → ℕ → Mode → Client → Client
 keep_begun slot spot domain mode client =
     record client { transactions = set_slot slot (Some (record { place = spot.place; domain = domain; version = version_for domain spot.version; mode = mode; ops = [] })) client.transactions }
 
--- the domain of the chain in a slot; an empty slot begins no transaction
+-- the domain of the chain in a slot; with an empty slot no transaction begins
 abbrev pub domain_in : Option Opened → ℕ
 domain_in chain = option_map_or (λ c. c.domain) chain 0
 
@@ -322,8 +322,8 @@ at_version version listener = record listener { version = version }
 abbrev pub keep_taken : ℕ → ℕ → Client → Client
 keep_taken slot version client = record client { listeners = set_slot slot (option_map (at_version version) (client.listeners slot)) client.listeners }
 
--- What the answer to a shared call leaves in the slots; the spot is that of the call's entry. A refusal leaves them as they
--- were, and nothing empties the slot of a chain, of a listener or of a request.
+-- The slots after the reply to a shared call; the spot is that of the call's entry. A refusal does not change them,
+-- and the slot of a chain, of a listener or of a request is never emptied.
 abbrev pub keep : Spot → Move → Reply → Client → Client
 keep spot (Begin slot domain mode) (Begun commit on) client = keep_begun slot spot domain mode client
 keep spot (ChainBegin chain slot mode) (Begun commit on) client = keep_begun slot spot (domain_in (client.chains chain)) mode client
@@ -337,12 +337,12 @@ keep spot (Invoke slot name context value) (CallMade id) client = record client 
 keep spot (NextCall slot) (Request request) client = record client { handed = set_slot slot (Some (record { id = request.id; rpc = request.rpc })) client.handed }
 keep spot step r client = client
 
--- a client and the steps that are still to come
+-- a client and its remaining steps
 pub record Run : Type 0 where
   pub client : Client
   pub steps : List Move
 
--- what a client reaches by its local steps: its end, or a shared call with the steps after it
+-- the result of a client's local steps: its end, or a shared call with the steps after it
 pub data Arrival : Type 0 where
   ended : Client → Arrival
   calls : Call → Move → Run → Arrival
@@ -357,7 +357,7 @@ pub record PlayState : Type 0 where
   pub log : List Entry
   pub runs : List Run
 
--- an answered step is followed by the next ones; a shared call waits for its turn
+-- after a local step the next ones follow; a shared call waits for its turn
 abbrev pub arrive_by : (Client → Arrival) → (Call → Arrival) → Meeting → Arrival
 arrive_by next wait (local r client) = next (replied r client)
 arrive_by next wait (shared call) = wait call
@@ -367,7 +367,7 @@ abbrev pub state_with : PlayState → ℕ → Option Made → Option PlayState
 state_with state c None = None
 state_with state c (Some made) = Some (record { log = made.log; runs = slice_set state.runs c made.run })
 
--- the replies of each client at its end; none where a shared call is left
+-- the replies of each client at its end; none if a shared call remains
 abbrev pub replies_at : Arrival → Option (List StepReply)
 replies_at (ended client) = Some client.replies
 replies_at (calls call step run) = None
@@ -383,7 +383,7 @@ module _ (tables : List Versions) (world : List Domain) where
   arrive log client [] = ended client
   arrive log client (step ∷ steps) = arrive_by (λ next. arrive log next steps) (λ call. calls call step (record { client = client; steps = steps })) (meet tables world log client step)
 
-  -- the call is made and answered; `none` where the client has reached its end
+  -- the call is made, with its reply; `none` if the client has reached its end
   abbrev pub make : List Entry → ℕ → Arrival → Option Made
   make log c (ended client) = None
   make log c (calls call step run) =
@@ -395,7 +395,7 @@ module _ (tables : List Versions) (world : List Domain) where
   abbrev pub go : List Entry → ℕ → Run → Option Made
   go log c run = make log c (arrive log run.client run.steps)
 
-  -- one number of the order: none where no client has it, or where that client reaches its end first
+  -- one number of the order: none if no client has it, or if that client reaches its end first
   abbrev pub advance_of : PlayState → ℕ → Option Run → Option PlayState
   advance_of state c None = None
   advance_of state c (Some run) = state_with state c (go state.log c run)
@@ -412,7 +412,7 @@ pub record Played : Type 0 where
   pub log : List Entry
   pub replies : List (List StepReply)
 
--- the order fails where no call was made
+-- the order fails if no call was made
 abbrev pub play_by : ℕ → (PlayState → Result Played ℕ) → Option PlayState → Result Played ℕ
 play_by index next None = Err index
 play_by index next (Some state) = next state
@@ -427,11 +427,11 @@ module _ (tables : List Versions) (world : List Domain) where
   play_from index state [] = end_by index state.log (replies_of tables world state.log state.runs)
   play_from index state (c ∷ order) = play_by index (λ next. play_from (index + 1) next order) (advance tables world state c)
 
--- the clients of a script at their beginning
+-- the clients of a script before their first steps
 abbrev pub start : List (List Move) → PlayState
 start clients = record { log = []; runs = map (λ steps. record { client = new_client; steps = steps }) clients }
 
--- what a script does in an order over its domains, or the index at which the order fails
+-- the play of a script in an order over its domains, or the index at which the order fails
 abbrev pub play : List Domain → List (List Move) → List ℕ → Result Played ℕ
 play world clients order = play_from (versions_of world) world 0 (start clients) order
 

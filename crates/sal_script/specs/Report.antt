@@ -26,7 +26,7 @@ pub use Rattle.sal_script.specs.Words.{breach_text, context_text, data_fault_tex
 abbrev pub order_line : List Entry → List ℕ
 order_line log = codes "order" ++ (flat_map (λ e. number e.client) log ++ (10 ∷ []))
 
--- What is of a domain is written by the table of the last version of its schema; RPCs, notifications, mounts and upgrades are of
+-- The paths and data of a domain are written by the table of the last version of its schema; RPCs, notifications, mounts and upgrades are of
 -- domain 0.
 module _ (tables : List SchemaTable) where
   -- ---- replies

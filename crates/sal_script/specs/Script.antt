@@ -1,4 +1,4 @@
--- Which script bytes denote, or the first bad place, looked for in the order of the lines below.
+-- Which script bytes denote, or the first fault, in the order of the lines below.
 use Rattle.std.specs.Prelude.{ℕ, ◌+◌, Bool, true, false, List, [], ◌∷◌, ◌++◌, length, Option, None, Some, option_and_then, Result, Ok, Err, codes, decimal, if◌then◌else◌, nat_eq, nat_le}
 use Rattle.std.specs.Option.{option_map}
 use Rattle.sal_types.specs.Reading.{◌>>=◌}
@@ -13,18 +13,18 @@ use Rattle.sal_script.specs.Limits.{all_texts, are_short}
 use Rattle.sal_script.specs.Json.{list_of, all_named, data_of, text_eq}
 use Rattle.sal_script.specs.CheckedReads.{step_with, with_reads}
 
--- what a device has, and the controller's own domain
+-- the parts of a device, and of the controller's own domain
 pub record DeviceParts : Type 0 where
   pub modules : List (List ℕ)
   pub config : Data
   pub operational : Data
 
--- what domain 0 has: its modules and its openings, and the texts of the further modules that each upgrade adds
+-- domain 0: its modules and its openings, and the texts of the further modules of each upgrade
 pub record OwnParts : Type 0 where
   pub device : DeviceParts
   pub upgrades : List (List (List ℕ))
 
--- what a script has; its own modules, upgrades and openings are those of domain 0; and whether reads are checked
+-- the parts of a script; its own modules, upgrades and openings are those of domain 0; and whether reads are checked
 pub record Parts : Type 0 where
   pub modules : List (List ℕ)
   pub upgrades : List (List (List ℕ))
@@ -51,13 +51,13 @@ abbrev pub or_bad : {A : Type 0} → List ℕ → Option A → Result A (List �
 or_bad place None = Err place
 or_bad place (Some x) = Ok x
 
--- the list, where it is no longer than the limit
+-- the list, unless it is longer than the limit
 abbrev pub at_most : {A : Type 0} → ℕ → List A → Option (List A)
 at_most limit xs = if nat_le (length xs) limit then Some xs else None
 
 -- ---- members
 
--- an object with no members but these
+-- an object with only these members
 abbrev pub members_of : List (List ℕ) → Data → Option Members
 members_of names d = option_and_then (λ ms. if all_named names ms then Some ms else None) (as_object d)
 
@@ -89,14 +89,14 @@ abbrev pub clients_from : ℕ → List (List Data) → Result (List (List Move))
 clients_from c [] = Ok []
 clients_from c (p ∷ ps) = steps_from c 0 p >>= (λ steps. clients_from (c + 1) ps >>= (λ clients. Ok (steps ∷ clients)))
 
--- the steps of the clients, at most 16; each client is looked at before the steps of the first
+-- the steps of the clients, at most 16; each client is checked before the steps of the first
 abbrev pub clients_member : Members → Result (List (List Move)) (List ℕ)
 clients_member ms =
     or_bad (codes "clients") (option_and_then (at_most 16) (list_member (codes "clients") ms))
     >>= (λ ds. programs_from 0 ds
     >>= (λ programs. clients_from 0 programs))
 
--- what each of these denotes, where each denotes something
+-- the results for these, if each has one
 abbrev pub all_of : {A : Type 0} → (Data → Option A) → List Data → Option (List A)
 all_of f [] = Some []
 all_of f (d ∷ ds) = option_and_then (λ x. option_map (λ xs. x ∷ xs) (all_of f ds)) (f d)
@@ -109,7 +109,7 @@ numbers_of ds = all_of number_of ds
 abbrev pub texts_in : Data → Option (List (List ℕ))
 texts_in d = option_and_then (all_of as_str) (list_of d)
 
--- texts, where they have fewer than 2^32 bytes together
+-- texts, if they have fewer than 2^32 bytes together
 abbrev pub if_short : List (List ℕ) → Option (List (List ℕ))
 if_short texts = if are_short texts then Some texts else None
 
@@ -117,7 +117,7 @@ if_short texts = if are_short texts then Some texts else None
 abbrev pub texts_of : Data → Option (List (List ℕ))
 texts_of d = option_and_then if_short (texts_in d)
 
--- the texts of the modules; if there is no such member, that of the module `plain`
+-- the texts of the modules; without such a member, that of the module `plain`
 abbrev pub modules_member : Members → Option (List (List ℕ))
 modules_member ms = given (get_member (codes "modules") ms)
   where
@@ -129,7 +129,7 @@ modules_member ms = given (get_member (codes "modules") ms)
 abbrev pub listed_upgrades : Members → Option (List (List (List ℕ)))
 listed_upgrades ms = option_and_then (all_of texts_in) (option_and_then (at_most 16) (list_member (codes "upgrades") ms))
 
--- upgrades, where their texts and those of the modules before them have fewer than 2^32 bytes together
+-- upgrades, if their texts and those of the modules before them have fewer than 2^32 bytes together
 abbrev pub if_short_after : List (List ℕ) → List (List (List ℕ)) → Option (List (List (List ℕ)))
 if_short_after modules upgrades = if are_short (all_texts modules upgrades) then Some upgrades else None
 
@@ -149,6 +149,18 @@ opening_by (Some d) = if_object d
 -- the data of an opening tree, an object; an absent one is empty
 abbrev pub opening_member : List ℕ → Members → Option Data
 opening_member name ms = opening_by (get_member name ms)
+
+-- the data of an opening tree, whether they are an object or not
+abbrev pub data_by : Option Data → Data
+data_by None = object no_members
+data_by (Some d) = d
+
+abbrev pub opened : List ℕ → Members → Data
+opened name ms = data_by (get_member name ms)
+
+-- the texts of modules with both
+abbrev pub with_opened : Members → List (List ℕ) → DeviceParts
+with_opened ms texts = record { modules = texts; config = opened (codes "config") ms; operational = opened (codes "operational") ms }
 
 -- ---- devices
 
@@ -170,7 +182,7 @@ device_names = codes "modules" ∷ codes "config" ∷ codes "operational" ∷ []
 abbrev pub device_of : Data → Result DeviceParts (List ℕ)
 device_of d = or_bad (codes "devices") (members_of device_names d) >>= device_in
 
--- whatever is bad in it, the place is that of the device
+-- the place of any fault in it is that of the device
 abbrev pub placed : {A : Type 0} → List ℕ → Result A (List ℕ) → Result A (List ℕ)
 placed place (Ok x) = Ok x
 placed place (Err inner) = Err place
@@ -194,7 +206,7 @@ names = codes "modules" ∷ codes "upgrades" ∷ codes "config" ∷ codes "opera
 abbrev pub rules_by : ℕ → Option Rules
 rules_by n = if nat_eq n 1 then Some One else (if nat_eq n 2 then Some Two else None)
 
--- the version rules; if there is no such member they are 1
+-- the version rules; without such a member they are 1
 abbrev pub rules_member : Members → Option Rules
 rules_member ms = given (get_member (codes "rules") ms)
   where
@@ -206,7 +218,7 @@ rules_member ms = given (get_member (codes "rules") ms)
 abbrev pub checked_by : List ℕ → Option Bool
 checked_by text = if text_eq text (codes "checked") then Some true else None
 
--- whether reads are checked; they are not if there is no such member
+-- whether reads are checked; without such a member they are not
 abbrev pub reads_member : Members → Option Bool
 reads_member ms = given (get_member (codes "reads") ms)
   where
@@ -214,7 +226,7 @@ reads_member ms = given (get_member (codes "reads") ms)
     given None = Some false
     given (Some d) = option_and_then checked_by (as_str d)
 
--- what comes after the clients: the order, the version rules, and whether reads are checked
+-- the members after the clients: the order, the version rules, and whether reads are checked
 pub record Ending : Type 0 where
   pub order : List ℕ
   pub rules : Rules
@@ -252,14 +264,14 @@ own_with ms texts =
     >>= (λ upgrades. with_openings ms texts
     >>= (λ device. Ok (record { device = device; upgrades = upgrades })))
 
--- what domain 0 has
+-- domain 0
 abbrev pub own_of : Members → Result OwnParts (List ℕ)
 own_of ms = or_bad (codes "modules") (modules_member ms) >>= own_with ms
 
 abbrev pub parts_of : Members → Result Parts (List ℕ)
 parts_of ms = own_of ms >>= parts_with ms
 
--- the script that bytes denote, or the first bad place
+-- the script that bytes denote, or the first fault
 abbrev pub script_of : List ℕ → Result Parts (List ℕ)
 script_of bytes =
     or_bad (codes "json") (data_of bytes)

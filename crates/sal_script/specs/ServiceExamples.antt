@@ -53,7 +53,7 @@ alone = bare messages ∷ []
 abbrev pub with_device : List Domain
 with_device = bare messages ∷ bare table ∷ []
 
--- the replies to each client, none where the order is not legal
+-- the replies to each client, none if the order is not legal
 abbrev pub replies_of : Result Played ℕ → List (List StepReply)
 replies_of (Ok played) = played.replies
 replies_of (Err index) = []
@@ -90,7 +90,7 @@ asks_replies = Called (said.CallMade 1) ∷ Called said.Nothing ∷ Called (said
 
 -- ---- steps that make no call
 
--- of an empty slot, of names that no RPC and no notification have, of a path, of a value, and of a domain that the script has not
+-- of an empty slot, of names without an RPC or a notification, of a path, of a value, and of a domain that the script does not have
 abbrev pub refused_locally : List Move
 refused_locally =
     Answer 0 (with_number "m" 8)
@@ -131,6 +131,6 @@ at_device = Mount 1 (codes "/shop:hall") ∷ Begin 0 1 Rw ∷ put "/plain:box/a"
 abbrev pub at_device_replies : List StepReply
 at_device_replies = Called said.Accepted ∷ Called (said.Begun 0 None) ∷ Accepted ∷ Called (said.Begun 0 None) ∷ Refused (BadPath (UnknownNode 1)) ∷ []
 
--- a device as a script has it, with its modules alone
+-- a device of a script, with its modules only
 abbrev pub device_of : List (List ℕ) → DeviceParts
 device_of modules = record { modules = modules; config = object no_members; operational = object no_members }

@@ -1,6 +1,6 @@
--- What the steps on services ask for: a shared call, or why the client makes none. RPCs, notifications and mounts are the
--- controller's own, so names, paths and values are read by the schema of domain 0. The first refusal counts: of the slot, the
--- name, the path, and then of the value.
+-- The shared calls of the steps on services, or why the client makes none. RPCs, notifications and mounts are the
+-- controller's own, so names, paths and values are read by the schema of domain 0. The first refusal is returned: of the slot, the
+-- name, the path, then of the value.
 use Rattle.std.specs.Prelude.{ℕ, List, Option, Some, None, Result, Ok, Err}
 use Rattle.serde_json.specs.Data.{Data}
 use Rattle.sal_types.specs.declared.value.Step.{Step}
@@ -17,16 +17,16 @@ use Rattle.sal_script.specs.declared.reply.StepRefusal.{StepRefusal}
 use Rattle.sal_script.specs.declared.reply.StepRefusal.TheVariants.{EmptySlot, UnknownName, BadPath, BadData}
 use Rattle.sal_script.specs.Messages.{input_of, message_at, note_called, output_of, rpc_called}
 
--- a request that the client was handed: its id, and the RPC
+-- a request that the client took: its id, and the RPC
 pub record Invocation : Type 0 where
   pub id : ℕ
   pub rpc : ℕ
 
--- something, or why it is wanting
+-- a value, or why there is none
 abbrev pub OrRefusal : Type 0 → Type 0
 OrRefusal A = Result A StepRefusal
 
--- what the slot holds
+-- the value of the slot
 abbrev pub in_slot : {A : Type 0} → Option A → OrRefusal A
 in_slot None = Err EmptySlot
 in_slot (Some x) = Ok x
@@ -54,7 +54,7 @@ module _ (table : SchemaTable) where
   context_of None = Ok None
   context_of (Some text) = path_of text >>= (λ path. Ok (Some path))
 
-  -- the rows that a value denotes under an input, output or notification
+  -- the rows that a value denotes below an input, output or notification
   abbrev pub rows_of : ℕ → Data → OrRefusal (List Row)
   rows_of n value = rows_or (read_data table (message_at n) value)
 

@@ -26,13 +26,13 @@ pub record IsReportInSomeOrder (world : List Domain) (clients : List (List Move)
   pub plays : play world clients order ≡ Ok played
   pub written : text ≡ report world played
 
--- the report of what clients left is one
+-- the report of clients' results is one
 abbrev pub LeftIsReported : Type 0
 LeftIsReported =
     (world : List Domain) (clients : List (List Move)) (log : List Entry) (replies : List (List StepReply))
     → AreLogOf world clients log replies → IsReportInSomeOrder world clients (report world (record { log = log; replies = replies }))
 
--- numbers as a client's can be
+-- numbers that a client can have
 abbrev pub AreNumbers : List ℕ → Type 0
 AreNumbers order = IsTrue (list_all (λ n. nat_lt n (2 ^ 64)) order)
 

@@ -51,12 +51,12 @@ place_of step parts = None
 abbrev pub Writing : Type 0
 Writing = ℕ → Store → List ℕ → Data → Move
 
--- a step that writes a value, of whatever kind, at a path
+-- a step that writes a value, of any kind, at a path
 abbrev pub write_of : Writing → List Data → Option Move
 write_of step (t ∷ s ∷ p ∷ v ∷ []) = place_of (λ slot store path. step slot store path v) (t ∷ s ∷ p ∷ [])
 write_of step parts = None
 
--- a step at a slot alone
+-- a step with a slot only
 abbrev pub slot_step_of : (ℕ → Move) → List Data → Option Move
 slot_step_of step (t ∷ []) = option_map step (slot_of t)
 slot_step_of step parts = None
@@ -75,12 +75,12 @@ abbrev pub pump_of : List Data → Option Move
 pump_of [] = Some Pump
 pump_of parts = None
 
--- a step with a number alone, such as a mark
+-- a step with a number only, such as a mark
 abbrev pub number_step_of : (ℕ → Move) → List Data → Option Move
 number_step_of step (n ∷ []) = option_map step (number_of n)
 number_step_of step parts = None
 
--- a version to which an upgrade leads, from 1 to 16
+-- the version of an upgrade, from 1 to 16
 abbrev pub version_of : Data → Option ℕ
 version_of d = option_and_then (λ n. if nat_eq n 0 then None else Some n) (whole_below 17 d)
 
@@ -88,7 +88,7 @@ abbrev pub upgrade_of : List Data → Option Move
 upgrade_of (u ∷ []) = option_map Upgrade (version_of u)
 upgrade_of parts = None
 
--- the step of a chain, a pump, a mark or of an upgrade with this word
+-- the step of a chain, a pump, a mark or an upgrade with this word
 abbrev pub chain_step_named : List ℕ → List Data → Option Move
 chain_step_named word parts =
     if text_eq word (codes "chain") then open_chain_of parts
@@ -106,7 +106,7 @@ listen_of (l ∷ d ∷ s ∷ p ∷ []) =
     option_and_then (λ listener. option_and_then (λ domain. option_and_then (λ store. option_map (Listen listener domain store) (as_str p)) (store_of s)) (number_of d)) (slot_of l)
 listen_of parts = None
 
--- the step of a listener with this word, or else of a chain, a pump, a mark or of an upgrade
+-- the step of a listener with this word, or else of a chain, a pump, a mark or an upgrade
 abbrev pub listener_step_named : List ℕ → List Data → Option Move
 listener_step_named word parts =
     if text_eq word (codes "listen") then listen_of parts
@@ -116,7 +116,7 @@ listener_step_named word parts =
 
 -- ---- steps of RPCs
 
--- the text of a context, or that there is none
+-- the text of a context, or none for `null`
 abbrev pub context_of : Data → Option (Option (List ℕ))
 context_of null = Some None
 context_of (boolean b) = None
@@ -143,7 +143,7 @@ answer_of parts = None
 
 -- ---- steps of notifications and mounts
 
--- a step with a text alone
+-- a step with a text only
 abbrev pub text_step_of : (List ℕ → Move) → List Data → Option Move
 text_step_of step (t ∷ []) = option_map step (as_str t)
 text_step_of step parts = None
@@ -160,7 +160,7 @@ abbrev pub mount_of : List Data → Option Move
 mount_of (e ∷ p ∷ []) = option_and_then (λ device. option_map (Mount device) (as_str p)) (number_of e)
 mount_of parts = None
 
--- the step of notifications or mounts with this word, or else of a listener, a chain, a pump or of a mark
+-- the step of notifications or mounts with this word, or else of a listener, a chain, a pump or a mark
 abbrev pub note_step_named : List ℕ → List Data → Option Move
 note_step_named word parts =
     if text_eq word (codes "subscribe") then text_step_of Subscribe parts
@@ -182,7 +182,7 @@ service_step_named word parts =
 
 -- ---- steps by their words
 
--- the step with this word and these parts after it
+-- the step with this word and these parts
 abbrev pub step_named : List ℕ → List Data → Option Move
 step_named word parts =
     if text_eq word (codes "begin") then begin_of parts

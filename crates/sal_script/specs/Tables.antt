@@ -9,7 +9,7 @@ use Rattle.sal_history.specs.World.{Domain, no_table, version_from, version_in}
 abbrev pub tables_of : List Domain → List SchemaTable
 tables_of world = map (λ (d : Domain). version_in d (length d.upgrades)) world
 
--- that of a domain, without nodes where the script has none of that number
+-- that of a domain, without nodes if the script has none of that number
 abbrev pub table_in : List SchemaTable → ℕ → SchemaTable
 table_in tables domain = unwrap_or (slice_get tables domain) no_table
 
@@ -23,7 +23,7 @@ Versions = List SchemaTable
 abbrev pub versions_of : List Domain → List Versions
 versions_of world = map (λ (d : Domain). d.table ∷ d.upgrades) world
 
--- those of one domain, none where the script has none of that number
+-- those of one domain, none if the script has none of that number
 abbrev pub versions_in : List Versions → ℕ → Versions
 versions_in tables domain = unwrap_or (slice_get tables domain) []
 

@@ -156,12 +156,12 @@ module _ (table : SchemaTable) where
 
   -- ---- rows
 
-  -- a space, and the rows at a path as JSON; without a row there is nothing, but at the root an empty object
+  -- a space, and the rows at a path as JSON; without a row ` absent`, but at the root an empty object
   abbrev pub listened_text : List Step → List Row → List ℕ
   listened_text (step ∷ path) [] = codes " absent"
   listened_text path rows = 32 ∷ compact_text (write_data table path rows)
 
-  -- the rows at a path as JSON; without a row there is nothing, but at the root an empty object
+  -- the rows at a path as JSON; without a row `absent`, but at the root an empty object
   abbrev pub rows_text : List Step → List Row → List ℕ
   rows_text (step ∷ path) [] = codes "absent"
   rows_text path rows = codes "data " ++ compact_text (write_data table path rows)

@@ -1,4 +1,4 @@
-//! Worked examples of clients along a log. Each function does nothing; its contract says what the definitions give, and the
+//! Worked examples of clients along a log. Each function does nothing; its contract states what the definitions give, and the
 //! proof computes it.
 ghost use Rattle.std.specs.Prelude.{◌≡◌, [], ◌∷◌, None, Some, Ok};
 ghost use Rattle.sal_history.specs.declared.call.Call.TheVariants.{After, Mark};
@@ -15,19 +15,19 @@ pub fn two_clients_cross()
     ensures second { Comes 1 crossed_log (commits (put a "y")) second_replies }
 {}
 
-/// A client that submits what it may only read, and cancels twice: both are refused by itself, and the log has no entry of them.
+/// A client that submits a read-only transaction, and cancels twice: it refuses both itself, and the log has no entry of them.
 pub fn refused_by_itself()
     ensures { Comes 0 refusing_log refuses refusing_replies }
 {}
 
-/// A client looks for a mark too early, and once after it was left. The script played in the order of this log gives the same.
+/// A client looks for a mark too early, and once after it was set. The script played in the order of this log gives the same.
 pub fn late_and_found()
     ensures looks { Comes 0 marks_log looks looking_replies }
     ensures leaves { Comes 1 marks_log leaves marking_replies }
     ensures played { play (world_of []) (looks ∷ leaves ∷ []) (order_of marks_log) ≡ Ok (record { log = marks_log; replies = looking_replies ∷ marking_replies ∷ [] }) }
 {}
 
-/// What a client cannot have left: a log without one of its calls, with one more than it makes, or with another call or another
+/// Logs that a client cannot have made: without one of its calls, with one more than it makes, or with another call or another
 /// number in the place of its own, where it makes another log.
 pub fn no_such_log()
     ensures one_missing { leaves_along 0 (entry 0 0 (After 7) ∷ []) looks ≡ None }

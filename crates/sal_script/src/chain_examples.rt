@@ -1,4 +1,4 @@
-//! Worked examples of chains, pumps and marks in scripts. Each function does nothing; its contract says what the definitions
+//! Worked examples of chains, pumps and marks in scripts. Each function does nothing; its contract states what the definitions
 //! give, and the proof computes it.
 ghost use Rattle.std.specs.Prelude.{◌≡◌, [], ◌∷◌, Ok, Err, codes};
 ghost use Rattle.sal_rows.specs.declared.outcome.CallFault.TheVariants.{ChainClosed, ChainFailed, PreviousOpen};
@@ -11,7 +11,7 @@ ghost use Rattle.sal_script.specs.Report.{call_text};
 ghost use Rattle.sal_script.specs.Examples.{plain_script, run, table};
 ghost use Rattle.sal_script.specs.ChainExamples.{closes, closes_report, leaves, looks, marks_report, on_pending, on_pending_report};
 
-/// The steps of chains, pumps and marks; and what is none of them.
+/// The steps of chains, pumps and marks; and arrays that are none.
 pub fn chain_steps_read()
     ensures chains { script_of (codes "{\"clients\":[{\"steps\":[[\"chain\",255,7],[\"chain-begin\",255,2,\"ro\"],[\"close-chain\",255]]}]}") ≡ Ok (plain_script ((OpenChain 255 7 ∷ ChainBegin 255 2 Ro ∷ CloseChain 255 ∷ []) ∷ []) []) }
     ensures others { script_of (codes "{\"clients\":[{\"steps\":[[\"pump\"],[\"mark\",4294967295],[\"after\",0]]}]}") ≡ Ok (plain_script ((Pump ∷ Mark 4294967295 ∷ After 0 ∷ []) ∷ []) []) }
@@ -19,7 +19,7 @@ pub fn chain_steps_read()
     ensures more { script_of (codes "{\"clients\":[{\"steps\":[[\"pump\",0]]}]}") ≡ Err (codes "clients/0/0") }
 {}
 
-/// The words of the replies that chains, pumps and marks have.
+/// The texts of the replies to chains, pumps and marks.
 pub fn reply_words()
     ensures chain { call_text (table ∷ []) (Chain 12) ≡ codes "chain 12" }
     ensures decided { call_text (table ∷ []) (Decided 3 0 (Done 2)) ≡ codes "decided 3 done 2" }
@@ -38,13 +38,13 @@ pub fn a_chain_over_a_pending_first()
     ensures { run (on_pending ∷ []) (0 ∷ 0 ∷ 0 ∷ 0 ∷ []) ≡ codes on_pending_report }
 {}
 
-/// A chain with an open transaction begins no other, and a closed one begins none and is not closed again. A step over an
-/// empty slot of a chain makes no call, and no chain is over a domain that is not live.
+/// In a chain with an open transaction no other begins; in a closed one none begins, and it is not closed again. A step with an
+/// empty chain slot makes no call, and no chain is over a domain that is not live.
 pub fn a_closed_chain()
     ensures { run (closes ∷ []) (0 ∷ 0 ∷ 0 ∷ 0 ∷ 0 ∷ 0 ∷ 0 ∷ 0 ∷ []) ≡ codes closes_report }
 {}
 
-/// A mark that another client leaves is found after it, and where nothing is pending a pump decides nothing.
+/// A mark that another client sets is found afterwards, and a pump without a pending receipt decides nothing.
 pub fn marks_between_clients()
     ensures { run (looks ∷ leaves ∷ []) (0 ∷ 1 ∷ 1 ∷ 0 ∷ []) ≡ codes marks_report }
 {}

@@ -10,7 +10,7 @@ use crate::step::{mode_of, number_alone, number_of, slot_alone, slot_of};
 use crate::values::whole_below;
 use serde_json::Value;
 
-// The step of a chain, a pump, a mark or of an upgrade with this word and these parts after it.
+// The step of a chain, a pump, a mark or an upgrade with this word and these parts.
 pub(crate) fn chain_step_named(word: &str, parts: &[Value]) -> Option<ScriptStep>
     ensures { option_map move_of result ≡ spec.chain_step_named word.now (map view parts.now) }
 {
@@ -89,7 +89,7 @@ fn upgrade_of(parts: &[Value]) -> Option<ScriptStep>
     Some(ScriptStep::Upgrade { version })
 }
 
-// A version to which an upgrade leads.
+// The version of an upgrade.
 fn version_of(value: &Value) -> Option<u32>
     ensures { result ≡ spec.version_of (view value.now) }
 {

@@ -1,4 +1,4 @@
-//! Checked reads: what a transaction that reads and writes has read is checked when it is submitted.
+//! Checked reads: the submission of a transaction that reads and writes checks its reads.
 ghost use Rattle.std.specs.Prelude.{◌≡◌, map};
 ghost use Rattle.sal_script.specs.CheckedReads.{checked_mode, checked_step, step_with, with_reads};
 ghost use Rattle.sal_script.specs.Moves.{clients_of, move_of, moves_of};

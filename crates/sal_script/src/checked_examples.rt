@@ -1,4 +1,4 @@
-//! Worked examples of checked reads. Each function does nothing; its contract says what the definitions give, and the proof
+//! Worked examples of checked reads. Each function does nothing; its contract states what the definitions give, and the proof
 //! computes it.
 ghost use Rattle.std.specs.Prelude.{◌≡◌, [], ◌∷◌, codes};
 ghost use Rattle.sal_rows.specs.declared.outcome.Mode.TheVariants.{Checked, Ro, Rw, Wo};
@@ -7,7 +7,7 @@ ghost use Rattle.sal_script.specs.Script.{script_of};
 ghost use Rattle.sal_script.specs.Examples.{plain_script};
 ghost use Rattle.sal_script.specs.CheckedExamples.{checked_report, checked_script, skew, unchecked_report};
 
-/// The member `reads` is the text `checked` or absent. Another value is a bad place, after all others.
+/// The member `reads` is the text `checked` or absent. Another value is a fault, after all others.
 pub fn reads_read()
     ensures checked { script_of (codes "{\"reads\":\"checked\"}") ≡ Ok (checked_script [] []) }
     ensures absent { script_of (codes "{}") ≡ Ok (plain_script [] []) }
@@ -23,7 +23,7 @@ pub fn modes_of_steps()
     ensures absent { script_of (codes "{\"clients\":[{\"steps\":[[\"begin\",0,0,\"rw\"]]}]}") ≡ Ok (plain_script ((Begin 0 0 Rw ∷ []) ∷ []) []) }
 {}
 
-/// Write skew: with checked reads the second client is refused by the leaf that it read and the commit that created it.
+/// Write skew: with checked reads the second client is refused, with the leaf that it read and the commit that created it.
 pub fn write_skew()
     ensures checked { skew Checked ≡ codes checked_report }
     ensures unchecked { skew Rw ≡ codes unchecked_report }

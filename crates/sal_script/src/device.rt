@@ -1,5 +1,5 @@
-//! What domains have, in the members of a script and of each device: the texts of modules and the data of openings.
-ghost use Rattle.std.specs.Prelude.{◌≡◌, [], ◌∷◌, codes, map, option_and_then, option_map, IfOk, IfErr, IsTrue};
+//! The modules and openings of domains, in the members of a script and of each device.
+ghost use Rattle.std.specs.Prelude.{◌≡◌, ℕ, List, [], ◌∷◌, codes, map, option_and_then, option_map, IfOk, IfErr, IsTrue};
 ghost use Rattle.std.specs.List.{list_all};
 ghost use Rattle.serde_json.specs.Find.{get_member};
 ghost use Rattle.serde_json.specs.View.{view, members_view};
@@ -55,7 +55,7 @@ fn texts_in(alloc: Global, value: &Value) -> Result<Vec<Str>, ScriptFault>
     }
 }
 
-// These texts, where they have fewer than 2^32 bytes together.
+// These texts, if they have fewer than 2^32 bytes together.
 fn short_texts(alloc: Global, texts: Vec<Str>) -> Result<Vec<Str>, ScriptFault>
     ensures texts { Reads (λ texts. texts.items) result (spec.or_bad (codes "modules") (spec.if_short texts.items)) }
     ensures short { IfOk result (λ texts. IsTrue (are_short texts.items)) }
@@ -128,6 +128,55 @@ fn opening_of(alloc: Global, members: &Map<String, Value>, name: &str) -> Result
     }
 }
 
+/// Whether the openings are objects.
+pub(crate) fn have_openings(alloc: Global, members: &Map<String, Value>) -> Result<(), ScriptFault>
+    ensures { (texts : List (List ℕ)) → Reads (λ _. spec.with_opened (members_view members.now.entries) texts) result (spec.with_openings (members_view members.now.entries) texts) }
+{
+    has_opening(alloc, members, "config")?;
+    has_opening(alloc, members, "operational")
+}
+
+// Whether the opening under the member of this name is an object.
+fn has_opening(alloc: Global, members: &Map<String, Value>, name: &str) -> Result<(), ScriptFault>
+    ensures { Reads (λ _. spec.opened name.now (members_view members.now.entries)) result (spec.or_bad name.now (spec.opening_member name.now (members_view members.now.entries))) }
+{
+    match member(members, name) {
+        None => Ok(()),
+        Some(value) if value.is_object() => Ok(()),
+        Some(_) => Err(bad(alloc, name)),
+    }
+}
+
+/// The data of both openings, taken out of the members. An absent one is empty.
+pub(crate) fn openings_in(alloc: Global, members: Map<String, Value>) -> (Value, Value)
+    ensures config { view result.0 ≡ spec.opened (codes "config") (members_view members.entries) }
+    ensures operational { view result.1 ≡ spec.opened (codes "operational") (members_view members.entries) }
+{
+    let mut members = members;
+    let config = taken(alloc, &mut members, "config");
+    let operational = taken(alloc, &mut members, "operational");
+    (config, operational)
+}
+
+// The data of the member of this name, taken out of the members. The other members stay.
+fn taken(alloc: Global, members: &mut Map<String, Value>, name: &str) -> Value
+    ensures value { view result ≡ spec.opened name.now (members_view members.old.entries) }
+    ensures others { (other : List ℕ) → (other ≡ name.now → ⊥) → get_member other (members_view members.new.entries) ≡ get_member other (members_view members.old.entries) }
+{
+    match removed(members, name) {
+        Some(value) => value,
+        None => Value::Object(Map::new(alloc)),
+    }
+}
+
+// The member of this name, removed from the members.
+fn removed(members: &mut Map<String, Value>, name: &str) -> Option<Value>
+    ensures value { option_map view result ≡ get_member name.now (members_view members.old.entries) }
+    ensures others { (other : List ℕ) → (other ≡ name.now → ⊥) → get_member other (members_view members.new.entries) ≡ get_member other (members_view members.old.entries) }
+{
+    members.remove(name)
+}
+
 // ---- devices
 
 /// The devices.
@@ -170,7 +219,7 @@ fn devices_of(alloc: Global, list: &[Value]) -> Result<Vec<ScriptDevice>, Script
     Ok(devices)
 }
 
-// The device of this number; whatever is bad in it, the place is its own.
+// The device of this number; the place of any fault in it is that of the device.
 fn device_at(alloc: Global, number: usize, value: &Value) -> Result<ScriptDevice, ScriptFault>
     requires { IsTrue (is_json (view value.now)) }
     ensures { Reads device result (spec.placed (spec.device_place number) (spec.device_of (view value.now))) }
@@ -193,7 +242,7 @@ fn device_of(alloc: Global, value: &Value) -> Result<ScriptDevice, ScriptFault>
     Ok(device)
 }
 
-// The members of the object that a device is, where it has no others than it may.
+// The members of the object of a device, if it has only allowed ones.
 fn device_members(alloc: Global, value: &Value) -> Result<&Map<String, Value>, ScriptFault>
     ensures { Reads (λ members. members_view members.now.entries) result (spec.or_bad (codes "devices") (spec.members_of spec.device_names (view value.now))) }
 {

@@ -1,4 +1,4 @@
-//! Worked examples of what scripts mean. Each function does nothing; its contract says what the definitions give, and
+//! Worked examples of the meaning of scripts. Each function does nothing; its contract states what the definitions give, and
 //! the proof computes it.
 ghost use Rattle.std.specs.Prelude.{◌≡◌, [], ◌∷◌, codes};
 ghost use Rattle.serde_json.specs.Data.{object, no_members};
@@ -16,7 +16,7 @@ pub fn empty_script()
     ensures report { run [] [] ≡ codes "order\ntree 0 0 {} {}\n" }
 {}
 
-/// The first bad place of bytes that are no script.
+/// The first fault of bytes that are no script.
 pub fn bad_places()
     ensures json { script_of (codes "{") ≡ Err (codes "json") }
     ensures script { script_of (codes "[]") ≡ Err (codes "script") }
@@ -26,7 +26,7 @@ pub fn bad_places()
     ensures step { script_of (codes "{\"clients\":[{\"steps\":[[\"fly\"]]}]}") ≡ Err (codes "clients/0/0") }
 {}
 
-/// The version rules are 1 or 2, and 1 where they are not said; another number, or what is no number, is a bad place after the order.
+/// The version rules are 1 or 2, and 1 if they are not given; another number, or another value, is a fault after that of the order.
 pub fn rules_read()
     ensures one { script_of (codes "{\"rules\":1}") ≡ Ok (plain_script [] []) }
     ensures two { script_of (codes "{\"rules\":2}") ≡ Ok (record (plain_script [] []) { rules = Two }) }
@@ -36,7 +36,7 @@ pub fn rules_read()
     ensures behind { script_of (codes "{\"rules\":3,\"order\":[-1]}") ≡ Err (codes "order") }
 {}
 
-/// The steps that write, and the one that gives up.
+/// The steps that write, and the one that cancels.
 pub fn steps_read()
     ensures put { script_of (codes "{\"clients\":[{\"steps\":[[\"put\",0,\"config\",\"/plain:box\",{\"a\":\"x\"}]]}]}") ≡ Ok (plain_script ((Put 0 Config (codes "/plain:box") (with_text "a" "x") ∷ []) ∷ []) []) }
     ensures merge { script_of (codes "{\"clients\":[{\"steps\":[[\"merge\",1,\"operational\",\"/\",{}]]}]}") ≡ Ok (plain_script ((Merge 1 Oper (codes "/") (object no_members) ∷ []) ∷ []) []) }
@@ -49,7 +49,7 @@ pub fn own_writes_and_an_older_snapshot()
     ensures { run (own_writes ∷ []) (0 ∷ 0 ∷ 0 ∷ 0 ∷ 0 ∷ []) ≡ codes own_writes_report }
 {}
 
-/// Two clients put the same leaf: the second is refused by its name and the commit that created it.
+/// Two clients put the same leaf: the second is refused, with its path and the commit that created it.
 pub fn same_leaf()
     ensures { run (commits (put a "x") ∷ commits (put a "y") ∷ []) crossed ≡ codes same_leaf_report }
 {}
@@ -59,14 +59,14 @@ pub fn different_leafs()
     ensures { run (commits (put a "x") ∷ commits (put b "y") ∷ []) crossed ≡ codes different_leafs_report }
 {}
 
-/// An order that names a client without a call left, or ends while one is left, fails at its index.
+/// An order that names a client without a remaining call, or ends while one remains, fails at its index.
 pub fn bad_orders()
     ensures no_client { run [] (0 ∷ []) ≡ codes "bad order at 0" }
     ensures too_long { run (own_writes ∷ []) (0 ∷ 0 ∷ 0 ∷ 0 ∷ 0 ∷ 0 ∷ []) ≡ codes "bad order at 5" }
     ensures too_short { run (own_writes ∷ []) (0 ∷ 0 ∷ 0 ∷ 0 ∷ []) ≡ codes "bad order at 4" }
 {}
 
-/// A reader of an opening tree: its rows as JSON, what is there and what is not, and texts that are no paths.
+/// A reader of an opening tree: its rows as JSON, present and absent paths, and texts that are no paths.
 pub fn looks_at_an_opening()
     ensures { run_over opened (looks ∷ []) (0 ∷ []) ≡ codes looks_report }
 {}
@@ -77,7 +77,7 @@ pub fn merges_and_deletes()
     ensures delete { run_over opened (commits (merge a "x") ∷ commits (delete a) ∷ []) crossed ≡ codes delete_after_merge_report }
 {}
 
-/// A cancelled transaction leaves nothing, and its slot is empty.
+/// A cancelled transaction changes nothing, and its slot is empty.
 pub fn cancelled()
     ensures { run (cancels ∷ []) (0 ∷ 0 ∷ []) ≡ codes cancels_report }
 {}
@@ -87,12 +87,12 @@ pub fn one_sided_transactions()
     ensures { run (one_sided ∷ []) (0 ∷ 0 ∷ 0 ∷ 0 ∷ []) ≡ codes one_sided_report }
 {}
 
-/// Refused writes, which leave nothing in their transaction.
+/// Refused writes, which change nothing in their transaction.
 pub fn refused_writes()
     ensures { run_over opened (refused_writes ∷ []) (0 ∷ 0 ∷ 0 ∷ []) ≡ codes refused_writes_report }
 {}
 
-/// The shared calls of a client: in its own steps, where a write is none and a refused step is none, and in a log.
+/// The shared calls of a client: in its own steps, without writes and refused steps, and in a log.
 pub fn shared_calls()
     ensures steps { exchanges_of submits_twice submits_twice_replies ≡ submits_twice_calls }
     ensures log { exchanges_in (world_of []) two_begin 1 ≡ cancelled_calls }

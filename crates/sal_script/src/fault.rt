@@ -10,7 +10,7 @@ use thiserror::Error;
 /// Why bytes are no script.
 #[derive(Debug, Drop, PartialEq, Eq, Error)]
 pub enum ScriptFault {
-    /// The first bad place: `json`, `script`, `devices/1`, `clients`, `clients/1`, `clients/1/7` or `order`.
+    /// The first fault: `json`, `script`, `devices/1`, `clients`, `clients/1`, `clients/1/7` or `order`.
     #[error("bad script at {}", .place.as_str())]
     BadScript { place: Str },
     #[error("out of memory")]
@@ -59,28 +59,28 @@ fn bad_at(place: Result<String, AllocError>) -> ScriptFault
     }
 }
 
-// This is the first bad place.
+// The fault with this place.
 pub(crate) fn bad(alloc: Global, place: &str) -> ScriptFault
     ensures { IsBadAt place.now result }
 {
     bad_at(String::from_str(alloc, place))
 }
 
-// The device of this number is the first bad place.
+// The fault with the number of this device.
 pub(crate) fn bad_device(alloc: Global, device: usize) -> ScriptFault
     ensures { IsBadAt (device_place device) result }
 {
     bad_at(format!(in alloc; "devices/{device}"))
 }
 
-// The client of this number is the first bad place.
+// The fault with the number of this client.
 pub(crate) fn bad_client(alloc: Global, client: usize) -> ScriptFault
     ensures { IsBadAt (client_place client) result }
 {
     bad_at(format!(in alloc; "clients/{client}"))
 }
 
-// The client's step of this number is the first bad place.
+// The fault with the number of this step of the client.
 pub(crate) fn bad_step(alloc: Global, client: usize, step: usize) -> ScriptFault
     ensures { IsBadAt (step_place client step) result }
 {

@@ -1,4 +1,4 @@
-//! Worked examples of listeners in scripts. Each function does nothing; its contract says what the definitions give, and the
+//! Worked examples of listeners in scripts. Each function does nothing; its contract states what the definitions give, and the
 //! proof computes it.
 ghost use Rattle.std.specs.Prelude.{◌≡◌, [], ◌∷◌, Some, Ok, Err, codes};
 ghost use Rattle.serde_json.specs.Written.{compact_text};
@@ -16,7 +16,7 @@ ghost use Rattle.sal_script.specs.Report.{call_text, refusal_text, reply_text};
 ghost use Rattle.sal_script.specs.Examples.{a, delete, opened, plain_script, put, run, run_over, table};
 ghost use Rattle.sal_script.specs.ListenerExamples.{appears_report, disappears_report, equal_report, follows, follows_report, goes, refused_locally, refused_locally_report, watched};
 
-/// The steps of listeners; and what is none of them.
+/// The steps of listeners; and arrays that are none.
 pub fn listener_steps_read()
     ensures listen { script_of (codes "{\"clients\":[{\"steps\":[[\"listen\",255,7,\"operational\",\"/\"],[\"take\",255]]}]}") ≡ Ok (plain_script ((Listen 255 7 Oper (codes "/") ∷ Take 255 ∷ []) ∷ []) []) }
     ensures others { script_of (codes "{\"clients\":[{\"steps\":[[\"unlisten\",0],[\"mirror\",9]]}]}") ≡ Ok (plain_script ((Unlisten 0 ∷ Mirror 9 ∷ []) ∷ []) []) }
@@ -24,7 +24,7 @@ pub fn listener_steps_read()
     ensures fewer { script_of (codes "{\"clients\":[{\"steps\":[[\"mirror\",0],[\"listen\",0,\"config\",\"/\"]]}]}") ≡ Err (codes "clients/0/1") }
 {}
 
-/// The words of the replies that listeners have.
+/// The texts of the replies to listeners' steps.
 pub fn listener_words()
     ensures opened { call_text (table ∷ []) (Listener 12 0 (Node 0 ∷ Node 1 ∷ []) (record { version = 3; rows = opened })) ≡ codes "listener 12 3 \"o\"" }
     ensures root { call_text (table ∷ []) (Listener 1 0 [] (record { version = 0; rows = [] })) ≡ codes "listener 1 0 {}" }
@@ -46,7 +46,7 @@ pub fn a_container_disappears()
     ensures { run_over opened (watched (delete a) ∷ []) (0 ∷ 0 ∷ 0 ∷ 0 ∷ 0 ∷ []) ≡ codes disappears_report }
 {}
 
-/// A mirror stays at the version that was taken last, also when the listener is removed.
+/// A mirror stays at the version of its last batch, also when the listener is removed.
 pub fn a_mirror_follows()
     ensures { run_over opened (follows ∷ []) (0 ∷ 0 ∷ 0 ∷ 0 ∷ 0 ∷ 0 ∷ 0 ∷ []) ≡ codes follows_report }
 {}
@@ -56,7 +56,7 @@ pub fn an_equal_value()
     ensures { run_over opened (watched (put a "o") ∷ []) (0 ∷ 0 ∷ 0 ∷ 0 ∷ 0 ∷ []) ≡ codes equal_report }
 {}
 
-/// What a client refuses by itself makes no call: the domain is looked at before the path.
+/// A step that the client refuses itself makes no call: the domain is checked before the path.
 pub fn refused_without_a_call()
     ensures { run (refused_locally ∷ []) (0 ∷ []) ≡ codes refused_locally_report }
 {}

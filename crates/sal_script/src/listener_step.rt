@@ -12,7 +12,7 @@ use sal_types::{NoMemory, Store, Str};
 use serde_json::Value;
 use std::alloc::Global;
 
-// The step of a listener with this word and these parts after it, or else of a chain, a pump or of a mark.
+// The step of a listener with this word and these parts, or else of a chain, a pump or a mark.
 pub(crate) fn listener_step_named(
     alloc: Global,
     word: &str,

@@ -21,17 +21,17 @@ use std::alloc::Global;
 pub const LOAD_MODULE: &str =
     "module load { namespace \"urn:load\"; prefix l; list cell { key k; leaf k { type uint32; } leaf v { type uint32; } } }";
 
-/// How many rounds a load has at most.
+/// The largest number of rounds of a load.
 pub const MAX_ROUNDS: u32 = 10000;
 
-/// The largest number after which a load starts.
+/// The largest start value of a load.
 pub const MAX_START: u32 = 65536;
 
-/// How many clients a load has.
+/// The number of clients of a load.
 pub const LOAD_CLIENTS: u32 = 4;
 
 /// The script of a load of this many rounds, over the module `LOAD_MODULE` and empty trees. In each round each of its four clients puts
-/// one entry in a transaction of its own, and settles it. The entries have the numbers after `start`, each once. There is no order.
+/// one entry in its own transaction, and settles it. The entries have the numbers after `start`, each once. There is no order.
 pub fn load_script(alloc: Global, rounds: u32, start: u32) -> Result<Script, NoMemory>
     requires rounds { rounds ≤ 10000 }
     requires start { start ≤ 65536 }
@@ -111,7 +111,7 @@ fn program(alloc: Global, client: u32, rounds: u32, start: u32) -> Result<Progra
     Ok(Seq::from_items(steps))
 }
 
-// One round more: a transaction that puts one entry.
+// One more round: a transaction that puts one entry.
 fn push_round(
     alloc: Global,
     steps: &mut Vec<ScriptStep>,

@@ -1,4 +1,4 @@
-//! Worked examples of a load. Each function does nothing; its contract says what the definitions give, and the proof computes it.
+//! Worked examples of a load. Each function does nothing; its contract states what the definitions give, and the proof computes it.
 ghost use Rattle.std.specs.Prelude.{◌≡◌, [], ◌∷◌, Ok, codes, map};
 ghost use Rattle.sal_data.specs.Read.{read_data};
 ghost use Rattle.sal_pathtext.specs.Read.{read_path};
@@ -11,7 +11,7 @@ pub fn last_entry()
     ensures number { value_in 65536 3 9999 ≡ 105536 }
 {}
 
-/// What a put of it reads, by the schema of the load's module: the entry, and its three rows.
+/// The reading of its put, by the schema of the load's module: the entry, and its three rows.
 pub fn an_entry_is_read()
     ensures path { read_path table (entry_path 3009999) ≡ Ok (entry 3009999) }
     ensures rows { read_data table (entry 3009999) (entry_data 3009999 105536) ≡ Ok (rows 3009999 105536) }

@@ -1,5 +1,6 @@
 //! Scripts, read from JSON (RFC 8259).
 ghost use Rattle.std.specs.Prelude.{◌≡◌, codes, map, option_and_then, option_map, IfOk, IsTrue};
+ghost use Rattle.serde_json.specs.Data.{object};
 ghost use Rattle.serde_json.specs.Find.{as_str};
 ghost use Rattle.serde_json.specs.View.{view, members_view};
 ghost use Rattle.sal_json_laws.specs.Json.{HasJson};
@@ -12,26 +13,26 @@ ghost use Rattle.sal_script.specs.Limits.{are_few, within_limits};
 ghost use Rattle.sal_script.specs.Script as spec;
 
 use crate::checked::{step_with, with_reads};
-use crate::device::devices_in;
+use crate::device::{devices_in, openings_in};
 use crate::fault::{ScriptFault, bad, bad_client, bad_step};
 use crate::script::{
     MAX_CLIENTS, MAX_PROGRAM, OwnDomain, Program, Script, ScriptDevice, ScriptStep,
 };
 use crate::step::step_of;
 use crate::upgrades::own_of;
-use crate::values::{at_most, list_member, list_of, member, members_of, whole_below};
+use crate::values::{at_most, has_only, list_member, list_of, member, members_of, whole_below};
 use sal_rows::Rules;
 use sal_types::Seq;
 use serde_json::{Map, Value};
 use std::alloc::Global;
 
-/// The script that bytes denote, or the first bad place: the bytes as JSON, the object's members, `modules`, `upgrades`, `config`,
+/// The script that bytes denote, or the first fault: of the bytes as JSON, the object's members, `modules`, `upgrades`, `config`,
 /// `operational`, `devices` and each device, `clients` and each client, the steps of each client, `order`, `rules`, `reads`.
 pub fn read_script(alloc: Global, bytes: &[u8]) -> Result<Script, ScriptFault>
     ensures { ReadsScript result (spec.script_of bytes.now) }
 {
     let value = value_of(alloc, bytes)?;
-    let members = script_members(alloc, &value)?;
+    let members = script_members(alloc, value)?;
     parts_of(alloc, members)
 }
 
@@ -49,8 +50,8 @@ fn value_of(alloc: Global, bytes: &[u8]) -> Result<Value, ScriptFault>
     }
 }
 
-/// The step that bytes denote, by itself: JSON in the form of a client's steps, in a script whose reads are checked or not. The place of
-/// one that they are not is `step`.
+/// The single step that bytes denote: JSON in the form of a client's steps, in a script whose reads are checked or not. The place of a
+/// fault is `step`.
 pub fn read_step(alloc: Global, checked: bool, bytes: &[u8]) -> Result<ScriptStep, ScriptFault>
     ensures reads { Reads move_of result (spec.one_step checked bytes.now) }
     ensures json { IfOk result (λ step. IsTrue (is_json_move (move_of step))) }
@@ -71,9 +72,22 @@ fn bare_step(alloc: Global, bytes: &[u8]) -> Result<ScriptStep, ScriptFault>
     }
 }
 
-// The members of the object that a script is, where it has no others than it may.
-fn script_members(alloc: Global, value: &Value) -> Result<&Map<String, Value>, ScriptFault>
-    ensures { Reads (λ members. members_view members.now.entries) result (spec.or_bad (codes "script") (spec.members_of spec.names (view value.now))) }
+// The members of the object of a script, if it has only allowed ones.
+fn script_members(alloc: Global, value: Value) -> Result<Map<String, Value>, ScriptFault>
+    ensures { Reads (λ members. members_view members.entries) result (spec.or_bad (codes "script") (spec.members_of spec.names (view value))) }
+{
+    match value {
+        Value::Object(members) => named_members(alloc, members),
+        _ => Err(bad(alloc, "script")),
+    }
+}
+
+// These members, if a script may have all of them.
+fn named_members(
+    alloc: Global,
+    members: Map<String, Value>,
+) -> Result<Map<String, Value>, ScriptFault>
+    ensures { Reads (λ named. members_view named.entries) result (spec.or_bad (codes "script") (spec.members_of spec.names (object (members_view members.entries)))) }
 {
     let names = &[
         "modules",
@@ -86,13 +100,13 @@ fn script_members(alloc: Global, value: &Value) -> Result<&Map<String, Value>, S
         "rules",
         "reads",
     ];
-    match members_of(value, names) {
-        Some(members) => Ok(members),
-        None => Err(bad(alloc, "script")),
+    if has_only(&members, names) {
+        return Ok(members);
     }
+    Err(bad(alloc, "script"))
 }
 
-// What a script has before its order.
+// The members of a script before its order.
 #[derive(Drop)]
 struct Beginning {
     own: OwnDomain,
@@ -100,7 +114,7 @@ struct Beginning {
     clients: Vec<Program>,
 }
 
-// What comes after it.
+// The members after the clients.
 #[derive(Drop)]
 struct Ending {
     order: Vec<u32>,
@@ -108,23 +122,23 @@ struct Ending {
     checked_reads: bool,
 }
 
-// Each part is read after those before it, which are handed on by value: if it is bad there is one value to let go of.
-fn parts_of(alloc: Global, members: &Map<String, Value>) -> Result<Script, ScriptFault>
-    requires { HasJson (members_view members.now.entries) }
-    ensures { Reads parts result (spec.parts_of (members_view members.now.entries)) }
+// Each part is read after those before it, which are passed by value: after a fault there is one value to drop.
+fn parts_of(alloc: Global, members: Map<String, Value>) -> Result<Script, ScriptFault>
+    requires { HasJson (members_view members.entries) }
+    ensures { Reads parts result (spec.parts_of (members_view members.entries)) }
 {
-    let own = own_of(alloc, members)?;
-    let domains = with_devices(alloc, members, own)?;
-    let beginning = with_clients(alloc, members, domains)?;
-    let ending = ending_of(alloc, members)?;
+    let own = own_of(alloc, &members)?;
+    let domains = with_devices(alloc, &members, own)?;
+    let beginning = with_clients(alloc, &members, domains)?;
+    let ending = ending_of(alloc, &members)?;
     let clients = with_reads(alloc, ending.checked_reads, beginning.clients);
     let own = beginning.own;
-    let device = own.device;
+    let (config, operational) = openings_in(alloc, members);
     Ok(Script {
-        modules: device.modules,
+        modules: own.modules,
         upgrades: own.upgrades,
-        config: device.config,
-        operational: device.operational,
+        config,
+        operational,
         devices: Seq::from_items(beginning.devices),
         clients: Seq::from_items(clients),
         order: Seq::from_items(ending.order),
@@ -257,7 +271,7 @@ fn ending_of(alloc: Global, members: &Map<String, Value>) -> Result<Ending, Scri
     })
 }
 
-// Whether reads are checked; they are not if the script does not say so.
+// Whether reads are checked; they are not if the script does not have the member.
 fn reads_of(alloc: Global, members: &Map<String, Value>) -> Result<bool, ScriptFault>
     ensures { Reads (λ checked. checked) result (spec.or_bad (codes "reads") (spec.reads_member (members_view members.now.entries))) }
 {
@@ -285,7 +299,7 @@ fn reads_in(value: &Value) -> Option<bool>
     }
 }
 
-// The version rules, which are 1 where the script does not say.
+// The version rules, which are 1 if the script does not have the member.
 fn rules_of(alloc: Global, members: &Map<String, Value>) -> Result<Rules, ScriptFault>
     ensures { Reads (λ rules. rules) result (spec.or_bad (codes "rules") (spec.rules_member (members_view members.now.entries))) }
 {

@@ -1,4 +1,4 @@
-//! What a client's step is answered.
+//! The reply to a client's step.
 use sal_data::DataFault;
 use sal_history::Reply;
 use sal_pathtext::PathTextFault;
@@ -6,32 +6,32 @@ use sal_rows::Rows;
 use sal_rules::TxFault;
 use sal_types::Path;
 
-/// Why a client refused a step by itself: it made no call.
+/// Why a client refused a step itself: it made no call.
 #[derive(Drop)]
 pub enum StepRefusal {
     /// No transaction, receipt, chain, listener or request is in the slot.
     EmptySlot,
     /// The transaction is read-only.
     ReadOnly,
-    /// The script has no such domain.
+    /// The script does not have the domain.
     NoDevice,
-    /// Domain 0 has no such version of its schema.
+    /// Domain 0 does not have the version of its schema.
     NoUpgrade,
     /// Domain 0 has no RPC, or no notification, of this name.
     UnknownName,
     /// The text is no path of the schema.
     BadPath { fault: PathTextFault },
-    /// The value is no data of the domain's schema at the path, or no input, output or notification of it.
+    /// The value is not data of the domain's schema at the path, or not an input, output or notification of it.
     BadData { domain: u32, fault: DataFault },
-    /// The transaction of the domain refused the write, or a read where it only writes.
+    /// The transaction of the domain refused the write, or the read because it only writes.
     Write { domain: u32, fault: TxFault },
 }
 
-/// The answer to a step: of a shared call, what the log gives; of a local step, what the client's own transaction gives, or its
-/// copy of what it listens to.
+/// The reply to a step: to a shared call, the one by the log; to a local step, the result in the client's own transaction or
+/// mirror.
 #[derive(Drop)]
 pub enum StepReply {
-    /// The answer to the shared call.
+    /// The reply to the shared call.
     Called {
         reply: Reply,
     },
@@ -47,7 +47,7 @@ pub enum StepReply {
     Exists {
         found: bool,
     },
-    /// What was committed at a listener's path and below it in a store of the domain, at the version that was taken last.
+    /// The rows that were committed at and below a listener's path in a store of the domain, at the version of its last batch.
     Mirror {
         domain: u32,
         path: Path,

@@ -10,24 +10,24 @@ use sal_rows::{Mode, Rules};
 use sal_types::{Seq, Store, Str};
 use serde_json::Value;
 
-/// How many clients a script has at most.
+/// The largest number of clients of a script.
 pub const MAX_CLIENTS: usize = 16;
 
-/// How many devices a script has at most.
+/// The largest number of devices of a script.
 pub const MAX_DEVICES: usize = 63;
 
-/// How many upgrades domain 0 has at most.
+/// The largest number of upgrades of domain 0.
 pub const MAX_UPGRADES: usize = 16;
 
-/// How many steps a client has at most.
+/// The largest number of steps of a client.
 pub const MAX_PROGRAM: usize = 60000;
 
-/// The module of a script that names none: a container with eight leafs.
+/// The default module of a script: a container with eight leafs.
 pub const PLAIN: &str =
     "module plain { namespace \"urn:plain\"; prefix p; container box {\n leaf a { type string; } leaf b { type string; } leaf c { type string; } leaf d { type string; }\n leaf e { type string; } leaf f { type string; } leaf g { type string; } leaf h { type string; } } }\n";
 
-/// One step of a client. Slots are the client's own places for transactions, for receipts, for chains, for listeners, for the
-/// requests that it made and for those that it was handed, from 0 to 255. Names, paths and values are read by a schema when the
+/// One step of a client. Slots are the client's numbered places for transactions, for receipts, for chains, for listeners, for the
+/// requests that it made and for those that it took, from 0 to 255. Names, paths and values are read by a schema when the
 /// step is answered.
 #[derive(Drop)]
 pub enum ScriptStep {
@@ -37,8 +37,8 @@ pub enum ScriptStep {
         domain: u32,
         mode: Mode,
     },
-    /// Puts the value at the path, in the slot's transaction: the path and what is below it have the rows of the value, and
-    /// nothing else.
+    /// Puts the value at the path, in the slot's transaction: it replaces all at and below the path by the rows of the
+    /// value.
     Put {
         slot: u8,
         store: Store,
@@ -52,19 +52,19 @@ pub enum ScriptStep {
         path: Str,
         value: Value,
     },
-    /// Deletes what is at the path and below it, in the slot's transaction.
+    /// Deletes all at and below the path, in the slot's transaction.
     Delete {
         slot: u8,
         store: Store,
         path: Str,
     },
-    /// Reads what the slot's transaction sees at the path.
+    /// Reads the rows that the slot's transaction sees at and below the path.
     Read {
         slot: u8,
         store: Store,
         path: Str,
     },
-    /// Asks whether the slot's transaction sees something at the path or below it.
+    /// Asks whether the slot's transaction sees a row at or below the path.
     Exists {
         slot: u8,
         store: Store,
@@ -74,7 +74,7 @@ pub enum ScriptStep {
     Submit {
         slot: u8,
     },
-    /// Gives up the slot's transaction.
+    /// Cancels the slot's transaction.
     Cancel {
         slot: u8,
     },
@@ -97,7 +97,7 @@ pub enum ScriptStep {
     CloseChain {
         chain: u8,
     },
-    /// Decides the first receipt that is pending, of whatever client.
+    /// Decides the first pending receipt, of any client.
     Pump,
     /// Listens to a store of the domain at the path and below it; the listener goes into the listener slot.
     Listen {
@@ -106,7 +106,7 @@ pub enum ScriptStep {
         store: Store,
         path: Str,
     },
-    /// Takes what changed for the listener in the slot since its opening, or since what was taken last.
+    /// Takes the batch of the listener in the slot: the changes since its opening, or since its last batch.
     Take {
         listener: u8,
     },
@@ -114,12 +114,12 @@ pub enum ScriptStep {
     Unlisten {
         listener: u8,
     },
-    /// Shows what the client has of the listener in the slot: what was committed at its path and below it, at the version that
-    /// was taken last.
+    /// Shows the client's mirror of the listener in the slot: the rows that were committed at and below its path, at the version of its
+    /// last batch.
     Mirror {
         listener: u8,
     },
-    /// Registers the client as the one who answers the RPC in the context, or without one.
+    /// Registers the client as the provider of the RPC in the context, or without one.
     Provide {
         rpc: Str,
         context: Option<Str>,
@@ -160,7 +160,7 @@ pub enum ScriptStep {
     },
     /// Takes all notifications that wait for the client.
     TakeNotes,
-    /// Mounts the device at the path of domain 0. It is the domain of the same number then.
+    /// Mounts the device at the path of domain 0. Its domain has the same number.
     Mount {
         device: u32,
         path: Str,
@@ -173,11 +173,11 @@ pub enum ScriptStep {
     MountAt {
         path: Str,
     },
-    /// Leaves the mark in the log.
+    /// Sets the mark in the log.
     Mark {
         mark: u32,
     },
-    /// Asks whether the mark was left.
+    /// Asks whether the mark was set.
     After {
         mark: u32,
     },
@@ -200,12 +200,12 @@ pub struct ScriptDevice {
     ghost opening: { IsTrue (is_json (view config) && is_json (view operational)) },
 }
 
-/// Domain 0: what it has as a device, and the texts of the modules that each upgrade adds; all texts together are shorter than 4 GiB.
+/// The texts of domain 0: of its modules, and of those that each upgrade adds; all together are shorter than 4 GiB.
 #[derive(Drop)]
 pub(crate) struct OwnDomain {
-    pub device: ScriptDevice,
+    pub modules: Seq<Str>,
     pub upgrades: Seq<Seq<Str>>,
-    ghost short: { IsTrue (are_short (all_texts device.modules upgrades)) },
+    ghost short: { IsTrue (are_short (all_texts modules upgrades)) },
 }
 
 /// A script: the texts of its modules and those that each upgrade of domain 0 adds, together shorter than 4 GiB, the data of its opening

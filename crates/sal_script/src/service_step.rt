@@ -13,7 +13,7 @@ use sal_types::{NoMemory, Str};
 use serde_json::Value;
 use std::alloc::Global;
 
-// The step of an RPC with this word and these parts after it, or else of another service, or of none.
+// The step of an RPC with this word and these parts, or else of another service, or none.
 pub(crate) fn service_step_named(
     alloc: Global,
     word: &str,
@@ -32,7 +32,7 @@ pub(crate) fn service_step_named(
     }
 }
 
-// The step of notifications or mounts with this word, or else of a listener, a chain, a pump or of a mark.
+// The step of notifications or mounts with this word, or else of a listener, a chain, a pump or a mark.
 fn note_step_named(
     alloc: Global,
     word: &str,
@@ -53,7 +53,7 @@ fn note_step_named(
 
 // ---- RPCs
 
-// The text of a context, or that there is none.
+// The text of a context, or none for `null`.
 fn context_of(value: &Value) -> Option<Option<&str>>
     ensures { option_map (λ context. option_map (λ text. text.now) context) result ≡ spec.context_of (view value.now) }
 {
@@ -191,7 +191,7 @@ fn collect_of(parts: &[Value]) -> Option<ScriptStep>
 
 // ---- notifications and mounts
 
-// The text, where it is the one part.
+// The text, if it is the only part.
 fn text_alone(parts: &[Value]) -> Option<&str>
     ensures { MatchOption result ((step : List ℕ → move.Move) → spec.text_step_of step (map view parts.now) ≡ None) (λ text. (step : List ℕ → move.Move) → spec.text_step_of step (map view parts.now) ≡ Some (step text.now)) }
 {

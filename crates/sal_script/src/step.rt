@@ -36,7 +36,7 @@ fn step_from(alloc: Global, parts: &[Value]) -> Result<Option<ScriptStep>, NoMem
     }
 }
 
-// The step with this word and these parts after it.
+// The step with this word and these parts.
 fn step_named(alloc: Global, word: &str, parts: &[Value]) -> Result<Option<ScriptStep>, NoMemory>
     ensures { IfOk result (λ found. option_map move_of found ≡ spec.step_named word.now (map view parts.now)) }
 {
@@ -175,7 +175,7 @@ fn settle_of(parts: &[Value]) -> Option<ScriptStep>
     Some(ScriptStep::Settle { slot })
 }
 
-// The slot, where it is the one part.
+// The slot, if it is the only part.
 pub(crate) fn slot_alone(parts: &[Value]) -> Option<u8>
     ensures { MatchOption result ((step : ℕ → move.Move) → spec.slot_step_of step (map view parts.now) ≡ None) (λ slot. (step : ℕ → move.Move) → spec.slot_step_of step (map view parts.now) ≡ Some (step slot)) }
 {
@@ -185,7 +185,7 @@ pub(crate) fn slot_alone(parts: &[Value]) -> Option<u8>
     slot_of(slot)
 }
 
-// The number, such as a mark, where it is the one part.
+// The number, such as a mark, if it is the only part.
 pub(crate) fn number_alone(parts: &[Value]) -> Option<u32>
     ensures { MatchOption result ((step : ℕ → move.Move) → spec.number_step_of step (map view parts.now) ≡ None) (λ number. (step : ℕ → move.Move) → spec.number_step_of step (map view parts.now) ≡ Some (step number)) }
 {

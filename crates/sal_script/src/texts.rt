@@ -1,4 +1,4 @@
-//! The texts of modules in a script, and how long they are.
+//! The texts of modules in a script, and their lengths.
 ghost use Rattle.std.specs.Prelude.{◌≡◌, ◌+◌, ◌<◌, length, map, option_map, MatchOption};
 ghost use Rattle.std.specs.List.{sum_by};
 ghost use Rattle.serde_json.specs.Find.{as_str};
@@ -13,7 +13,7 @@ use sal_types::{Seq, Str};
 use serde_json::Value;
 use std::alloc::Global;
 
-/// The most bytes that the texts of a domain's modules have together.
+/// The largest number of bytes of the texts of a domain's modules together.
 const MAX_BYTES: usize = (1 << 32) - 1;
 
 /// The texts in an array, in the member of this name.
@@ -74,7 +74,7 @@ pub(crate) fn are_all_short(modules: &[Str], upgrades: &[Seq<Str>]) -> bool
     true
 }
 
-// What these texts leave of the room for their bytes; nothing where they have more.
+// The remaining room after these texts; none if they have more bytes.
 fn room_after(room: usize, texts: &[Str]) -> Option<usize>
     ensures { MatchOption result (room < sum_by length texts.now) (λ left. sum_by length texts.now + left ≡ room) }
 {

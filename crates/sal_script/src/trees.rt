@@ -1,7 +1,7 @@
-//! What a domain has at the end of a run.
+//! The trees of a domain at the end of a run.
 use sal_rows::Rows;
 
-/// The trees of a domain, and how many commits led to them.
+/// The trees of a domain, and its number of commits.
 #[derive(Drop)]
 pub struct DomainTrees {
     pub domain: u32,

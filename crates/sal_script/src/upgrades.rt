@@ -1,12 +1,11 @@
-//! What domain 0 has of a script: its modules, the further modules that each upgrade of its schema adds, and its openings.
+//! Domain 0 of a script: its modules, the further modules of each upgrade of its schema, and its openings.
 ghost use Rattle.std.specs.Prelude.{◌≡◌, codes, map, option_and_then, option_map, IfOk, IsTrue};
 ghost use Rattle.serde_json.specs.View.{view, members_view};
-ghost use Rattle.sal_json_laws.specs.Json.{HasJson};
-ghost use Rattle.sal_script.specs.Reading.{Reads, device, own};
+ghost use Rattle.sal_script.specs.Reading.{Reads, own};
 ghost use Rattle.sal_script.specs.Limits.{all_texts, are_short};
 ghost use Rattle.sal_script.specs.Script as spec;
 
-use crate::device::{modules_of, with_openings};
+use crate::device::{have_openings, modules_of};
 use crate::fault::{ScriptFault, bad};
 use crate::script::{MAX_UPGRADES, OwnDomain};
 use crate::texts::{are_all_short, listed_texts};
@@ -15,10 +14,9 @@ use sal_types::{Seq, Str};
 use serde_json::{Map, Value};
 use std::alloc::Global;
 
-/// What domain 0 has.
+/// Domain 0.
 pub(crate) fn own_of(alloc: Global, members: &Map<String, Value>) -> Result<OwnDomain, ScriptFault>
-    requires { HasJson (members_view members.now.entries) }
-    ensures { Reads own result (spec.own_of (members_view members.now.entries)) }
+    ensures { Reads (own (members_view members.now.entries)) result (spec.own_of (members_view members.now.entries)) }
 {
     let modules = modules_of(alloc, members)?;
     let texts = with_upgrades(alloc, members, modules)?;
@@ -42,21 +40,19 @@ fn with_upgrades(
     Ok((modules, upgrades))
 }
 
-// These texts with the openings.
+// These texts, where the openings are objects.
 fn opened(
     alloc: Global,
     members: &Map<String, Value>,
     texts: (Vec<Str>, Vec<Seq<Str>>),
 ) -> Result<OwnDomain, ScriptFault>
-    requires json { HasJson (members_view members.now.entries) }
-    requires short { IsTrue (are_short texts.0.items) }
-    requires all_short { IsTrue (are_short (all_texts texts.0.items texts.1.items)) }
-    ensures device { Reads (λ read. device read.device) result (spec.with_openings (members_view members.now.entries) texts.0.items) }
+    requires { IsTrue (are_short (all_texts texts.0.items texts.1.items)) }
+    ensures device { Reads (λ read. (own (members_view members.now.entries) read).device) result (spec.with_openings (members_view members.now.entries) texts.0.items) }
     ensures upgrades { IfOk result (λ read. read.upgrades ≡ texts.1.items) }
 {
-    let device = with_openings(alloc, members, texts.0)?;
+    have_openings(alloc, members)?;
     Ok(OwnDomain {
-        device,
+        modules: Seq::from_items(texts.0),
         upgrades: Seq::from_items(texts.1),
     })
 }

@@ -1,4 +1,4 @@
-//! Looking into JSON values, as the definitions do.
+//! Parts of JSON values, as in the definitions.
 ghost use Rattle.std.specs.Prelude.{◌≡◌, option_and_then, option_map, map};
 ghost use Rattle.std.specs.List.{list_any};
 ghost use Rattle.serde_json.specs.View.{view, members_view};
@@ -28,7 +28,7 @@ pub(crate) fn whole_below(limit: u64, value: &Value) -> Option<u64>
     }
 }
 
-// The members of an object that has no members but these.
+// The members of an object that has only these.
 pub(crate) fn members_of<'v>(value: &'v Value, names: &[&str]) -> Option<&'v Map<String, Value>>
     ensures { option_map (λ members. members_view members.now.entries) result ≡ members_of (map (λ name. name.now) names.now) (view value.now) }
 {
@@ -55,7 +55,7 @@ pub(crate) fn list_member<'v>(members: &'v Map<String, Value>, name: &str) -> Op
     }
 }
 
-// The list, where it is no longer than the limit.
+// The list, unless it is longer than the limit.
 pub(crate) fn at_most(limit: usize, list: Option<&[Value]>) -> Option<&[Value]>
     ensures { option_map (λ found. map view found.now) result ≡ option_and_then (at_most limit) (option_map (λ found. map view found.now) list.entry) }
 {
@@ -66,7 +66,7 @@ pub(crate) fn at_most(limit: usize, list: Option<&[Value]>) -> Option<&[Value]>
 }
 
 // Whether every member has one of the names.
-fn has_only(members: &Map<String, Value>, names: &[&str]) -> bool
+pub(crate) fn has_only(members: &Map<String, Value>, names: &[&str]) -> bool
     ensures { result ≡ all_named (map (λ name. name.now) names.now) (members_view members.now.entries) }
 {
     for (key, _) in members.iter() {

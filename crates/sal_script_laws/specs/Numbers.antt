@@ -14,14 +14,14 @@ load_totals rounds start = record { calls = 12 * rounds; commits = 4 * rounds; r
 abbrev pub load_text : ℕ → ℕ → List ℕ
 load_text rounds start = summary_of rounds start (load_totals rounds start)
 
--- Whatever the order is in which a load is played, it gives these numbers.
+-- In each order a load gives these numbers.
 abbrev pub LoadsComeToOne : Type 0
 LoadsComeToOne =
     (rounds start : ℕ) (order : List ℕ) (played : Played) → rounds ≤ 10000 → start ≤ 65536
     → play load_world (clients_of rounds start) order ≡ Ok played
     → totals_of played.log (trees_in load_world played.log 0) ≡ load_totals rounds start
 
--- So what is the summary of a load in some order is this text.
+-- So the summary of a load in any order is this text.
 abbrev pub SummariesAreOne : Type 0
 SummariesAreOne =
     (rounds start : ℕ) (text : List ℕ) → rounds ≤ 10000 → start ≤ 65536

@@ -1,4 +1,4 @@
--- The rounds of a load: the put that each makes, the commits of rounds that came one after another, and what holds of these.
+-- The rounds of a load: the put of each, the commits of consecutive rounds, and their laws.
 use Rattle.std.specs.Prelude.{◌≡◌, ℕ, zero, suc, ◌+◌, ◌*◌, ◌<◌, ◌≤◌, Bool, true, false, not, ◌&&◌, List, [], ◌∷◌, ◌++◌, length, map, sum_by, nat_eq, None, Ok}
 use Rattle.std.specs.List.{list_any}
 use Rattle.sal_types.specs.declared.value.Store.{Store}
@@ -77,7 +77,7 @@ sum_to start client (suc round) = sum_to start client round + value_in start cli
 abbrev pub sum_after : ℕ → ℕ → ℕ
 sum_after start count = sum_by (λ n. n) (numbers_after start count)
 
--- ---- what holds of them
+-- ---- their laws
 
 -- There is no row at or below an entry that no round put.
 abbrev pub IsAbsent : Type 0
@@ -87,7 +87,7 @@ IsAbsent = (rounds : List Round) (key : ℕ) → has_key rounds key ≡ false �
 abbrev pub HasNoList : Type 0
 HasNoList = (rounds : List Round) → cell (trees_behind rounds Config) (Node 0 ∷ []) ≡ None
 
--- Over rounds and a base after rounds, a put of an entry that no round put is the next commit, whatever the spans are.
+-- Over rounds and a base after rounds, a put of an entry that no round put is the next commit, for any spans.
 abbrev pub IsDecided : Type 0
 IsDecided =
     (rounds front : List Round) (spans : List Span) (key value : ℕ) → has_key rounds key ≡ false
@@ -130,6 +130,6 @@ StayDistinct = (rounds : List Round) (round : Round) → are_distinct rounds ≡
 abbrev pub SumGrows : Type 0
 SumGrows = (rounds : List Round) (round : Round) → sum_of (rounds ++ round ∷ []) ≡ sum_of rounds + round.value
 
--- What the four clients put in these rounds are the next numbers after the start, each once.
+-- The puts of the four clients in these rounds are the next numbers after the start, each once.
 abbrev pub SumsAreAll : Type 0
 SumsAreAll = (start rounds : ℕ) → sum_to start 0 rounds + sum_to start 1 rounds + sum_to start 2 rounds + sum_to start 3 rounds ≡ sum_after start (4 * rounds)

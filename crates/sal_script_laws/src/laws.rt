@@ -29,7 +29,7 @@ pub fn rounds_are_read()
     ensures rows { rounds.DataIsRead }
 {}
 
-/// Each round of each client has a key of its own, and its key and number have 32 bits.
+/// Each round of each client has a different key, and its key and number have 32 bits.
 pub fn rounds_have_keys()
     ensures differ { rounds.KeysDiffer }
     ensures short { rounds.AreShort }
@@ -42,7 +42,7 @@ pub fn rounds_add_up()
     ensures all { rounds.SumsAreAll }
 {}
 
-/// In each order of its clients' calls a load gives the same numbers, and so its summary is one text.
+/// In each order of its clients' calls a load gives the same numbers, so its summary is one text.
 pub fn loads_come_to_one()
     ensures numbers { numbers.LoadsComeToOne }
     ensures text { numbers.SummariesAreOne }

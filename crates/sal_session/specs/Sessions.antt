@@ -1,4 +1,4 @@
--- An embedded broker with what it answered last, as a host sees it: by numbers and texts.
+-- An embedded broker with the text of its last call, as a host sees it: by numbers and texts.
 use Rattle.std.specs.Prelude.{◌≡◌, ◌⊎◌, ℕ, Bool, true, false, if◌then◌else◌, List, [], Option, None, Some, Result, Ok, Err}
 use Rattle.sal_types.specs.declared.memory.NoMemory.{NoMemory as Wanting}
 use Rattle.sal_prepare.specs.Scripted.{IsStatusOf}
@@ -30,19 +30,20 @@ abbrev pub report_number : Result (List ℕ) Wanting → ℕ
 report_number (Ok text) = 0
 report_number (Err wanting) = 10
 
--- a call without an answer has the text without bytes
+-- a call without a reply has the empty text
 abbrev pub text_of : {E : Type 0} → Result (List ℕ) E → List ℕ
 text_of (Ok text) = text
 text_of (Err why) = []
 
 -- ---- calls
 
--- The broker of the bytes is open, with no step made; or none is, and the number and the text are those of the status: the text may be lacking, where memory ran out.
+-- The broker of the bytes is open, with no step made; or none is, and the number and the text are those of the status: the text may be missing, if
+-- memory ran out.
 abbrev pub Opens : List ℕ → Option Clients → List ℕ → ℕ → Type 0
 Opens bytes (Some it) text n = (n ≡ 0) × (text ≡ []) × (world_of (opened bytes) ≡ Ok it.hub.world) × IsBegun it
 Opens bytes None text n = (status : Status) × (n ≡ status_number status) × IsStatusOf (world_of (opened bytes)) status × ((text ≡ line_of status) ⊎ (text ≡ []))
 
--- a broken broker is let go of
+-- a broken broker is dropped
 abbrev pub kept : Result (List ℕ) StepFault → Clients → Option Clients
 kept (Err Broken) it = None
 kept result it = Some it
@@ -51,13 +52,13 @@ abbrev pub is_broken : StepFault → Bool
 is_broken Broken = true
 is_broken fault = false
 
--- the number of a fault, which lets go of a broken broker
+-- the number of a fault, which drops a broken broker
 pub record Fails (fault : StepFault) (old new : Session) (n : ℕ) : Type 0 where
   pub number : n ≡ number_of fault
   pub broker : new.broker ≡ (if is_broken fault then None else old.broker)
   pub reply : new.reply ≡ old.reply
 
--- no broker is open, and none is by the call
+-- no broker is open, before and after the call
 abbrev pub IsClosed : Session → ℕ → Type 0
 IsClosed new n = (n ≡ 21) × (new.broker ≡ None) × (new.reply ≡ [])
 

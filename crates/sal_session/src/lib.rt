@@ -1,9 +1,9 @@
-//! An embedded broker with the text that it answered last: what a host holds that takes numbers and texts.
+//! An embedded broker with the text of its last reply, for a host that uses numbers and texts.
 //!
 //! | item | what it is |
 //! |---|---|
 //! | `Session` | a broker, or none, with the text of the last call: `open`, `boxed`, `step`, `report`, `reply` |
-//! | `loose` | the same as a pointer, for a host that holds it: what uses it proves nothing of what a broker holds |
+//! | `loose` | the same as a pointer, for a host that keeps it: its users prove nothing about the broker |
 //! | `DONE`, `NO_MEMORY`, .. | the numbers of the statuses |
 //!
 //! ```
@@ -27,9 +27,9 @@ use sal_prepare::status::Status;
 use sal_types::{NoMemory, Str};
 use std::alloc::Global;
 
-/// All is well.
+/// The call succeeded.
 pub const DONE: u32 = 0;
-/// Memory ran out. This and the numbers of a script that is refused, from 6 to 8, are those of the command.
+/// Memory ran out. This and the numbers of a refused script, from 6 to 8, are those of the command.
 pub const NO_MEMORY: u32 = 10;
 /// No broker is open.
 pub const NOT_OPEN: u32 = 21;
@@ -45,10 +45,10 @@ pub const FULL: u32 = 25;
 pub const LOST: u32 = 26;
 /// The step was made, and its reply is not shown.
 pub const UNTOLD: u32 = 27;
-/// The broker was let go of.
+/// The broker was dropped.
 pub const BROKEN: u32 = 28;
 
-/// A broker, or none where none was opened, with the text of what was answered last: a reply, a report, or why no broker was opened.
+/// A broker, or none if none was opened, with the text of the last call: a reply, a report, or why no broker was opened.
 #[derive(Drop)]
 pub struct Session {
     pub(crate) broker: Option<Embedded>,
@@ -56,7 +56,7 @@ pub struct Session {
 }
 
 impl Session {
-    /// Opens a broker, if the script is right, and returns the number of the status. The text is the line of what is wrong with the script.
+    /// Opens a broker, if the script is valid, and returns the number of the status. The text is the line of the script's fault.
     pub fn open(alloc: Global, script: &[u8]) -> (Session, u32)
         ensures { spec.Opens script.now result.0.broker result.0.reply result.1 }
     {
@@ -84,7 +84,7 @@ impl Session {
         self.broker.is_some()
     }
 
-    /// The text of what was answered last.
+    /// The text of the last call.
     pub fn reply(&self) -> &[u8]
         ensures { result.now ≡ self.now.reply }
     {
@@ -108,7 +108,7 @@ impl Session {
         }
     }
 
-    // The number of a fault. A broken broker is let go of.
+    // The number of a fault. A broken broker is dropped.
     fn fail(&mut self, fault: StepFault) -> u32
         ensures { spec.Fails fault self.old self.new result }
     {
@@ -157,7 +157,7 @@ fn without(alloc: Global, status: &Status) -> Session
     }
 }
 
-// The text without bytes. It takes no memory.
+// The empty text. It takes no memory.
 fn nothing(alloc: Global) -> Str
     ensures { result ≡ [] }
 {

@@ -51,7 +51,7 @@ pub fn is_open(session: Loose<Session, Global>) -> (Loose<Session, Global>, bool
     (Loose::of(session), is_open)
 }
 
-/// Copies as much as fits of the text of what was answered last, and returns how long that is.
+/// Copies as much of the last call's text as fits, and returns its length.
 pub fn copy_reply(
     session: Loose<Session, Global>,
     out: &mut [u8],
@@ -74,7 +74,7 @@ fn copy(from: &[u8], out: &mut [u8]) -> usize
     from.len()
 }
 
-/// Lets go of a session, with all that it has.
+/// Drops the session, with all that it has.
 pub fn close(session: Loose<Session, Global>) {
     drop(session.into_box());
 }

@@ -1,4 +1,4 @@
--- From a scene to its shapes. Time goes down, a row of 19 pixels for each step; on the left a lane for each client, on the right one for
+-- From a scene to its shapes. Time goes down, a row of 19 pixels for each step; on the left a lane for each client, on the right a column for
 -- each domain with a point for each commit.
 use Rattle.std.specs.Prelude.{ℕ, ◌+◌, ◌-◌, ◌*◌, ◌/◌, ◌%◌, ◌^◌, ◌≤◌, not, ◌&&◌, ◌||◌, Bool, true, false, List, [], ◌∷◌, ◌++◌, length, map, Option, None, Some, codes, decimal, if◌then◌else◌, max, min, nat_eq, nat_lt}
 use Rattle.std.specs.BTreeMap.{insert_entry, is_at}
@@ -24,7 +24,7 @@ use Rattle.sal_shapes.specs.declared.scene.Style.{Style}
 use Rattle.sal_shapes.specs.Labels.{cut}
 use Rattle.sal_shapes.specs.declared.scene.Style.TheVariants.{Axis, Bar, Commit, Heading, Lane, Number, Opening, Place, Refusal, Refused}
 
--- ---- where things stand
+-- ---- positions
 
 abbrev pub spot : ℕ → ℕ → Spot
 spot x y = record { x = x; y = y }
@@ -35,7 +35,7 @@ size width height = record { width = width; height = height }
 abbrev pub longer : ℕ → Row → ℕ
 longer n row = max n (length row.label)
 
--- how many bytes of a label are shown if there are so many lanes
+-- the number of bytes of a label that are shown, by the number of lanes
 abbrev pub room_for : ℕ → ℕ
 room_for lanes = if nat_lt lanes 5 then 42 else max 18 (168 / lanes)
 
@@ -46,7 +46,7 @@ width_of room rows = 40 + 7 * min (room + 2) (fold longer 8 rows)
 abbrev pub lane_x : ℕ → ℕ → ℕ
 lane_x width lane = 46 + lane * width
 
--- of so many lanes, for these domains
+-- of this many lanes, for these domains
 abbrev pub frame_of : ℕ → List Row → List ℕ → Frame
 frame_of lanes rows domains =
     record { room = room_for lanes; width = width_of (room_for lanes) rows; side = lane_x (width_of (room_for lanes) rows) lanes; domains = domains }
@@ -58,11 +58,11 @@ column_x frame domain = frame.side + 40 + 70 * position_or_len (λ d. nat_eq d d
 abbrev pub row_y : ℕ → ℕ
 row_y row = 55 + 19 * row
 
--- the upper edge, at which the openings stand, and what stands above the first row
+-- the upper edge, the height of the openings, above the first row
 abbrev pub top : ℕ
 top = 40
 
--- what belongs to a domain stands in its column
+-- the pins of a domain are in its column
 abbrev pub domain_of : Pin → Option ℕ
 domain_of (pin.Entry place) = None
 domain_of (pin.Commit domain number) = Some domain
@@ -80,12 +80,12 @@ spot_of frame here p = spot (option_map_or (column_x frame) (domain_of p) (here.
 abbrev pub end_of : Frame → Here → Pin → Spot
 end_of frame here p = spot (option_map_or (λ domain. here.x + frame.width - 14) (domain_of p) (here.x + 19)) here.y
 
--- ---- what is drawn
+-- ---- the picture
 
 abbrev pub pin_cmp : Pin → Pin → Ordering
 pin_cmp = (pin_ord.ghosts).cmp
 
--- so far: in which frame, where each pin stands, the lines, what stands over them, and how many rows there are
+-- the picture so far: its frame, the spot of each pin, the lines, the shapes above them, and the number of rows
 pub record Drawn : Type 0 where
   pub frame : Frame
   pub pins : List (Pin × Spot)
@@ -102,17 +102,17 @@ plain style x y text = Words style (spot x y) text text
 abbrev pub same_spot : Spot → Spot → Bool
 same_spot a b = nat_eq a.x b.x && nat_eq a.y b.y
 
--- the domain's commit of this number stands at the spot
+-- the spot is that of the domain's commit with this number
 abbrev pub stands_at : List (Pin × Spot) → ℕ → ℕ → Spot → Bool
 stands_at pins domain number s = option_map_or (same_spot s) (found (pin.Commit domain number) pins) false
 
--- An entry that decided several commits has their points at one spot, and their numbers side by side: where this number goes, 2 for two dots. From
+-- An entry that decided several commits has their points at one spot, and their numbers side by side: this number's position, 2 for two dots. From
 -- 1,000 on there is room for one number.
 abbrev pub beside : List (Pin × Spot) → ℕ → ℕ → Spot → ℕ
 beside pins domain number s =
     if stands_at pins domain (number - 1) s then (if nat_lt 999 number || stands_at pins domain (number - 2) s then 2 else 1) else 0
 
--- the number of a commit at its place beside the others, or two dots
+-- the number of a commit at its position beside the others, or two dots
 abbrev pub number_mark : ℕ → ℕ → Spot → Shape
 number_mark before number s = Words Number (spot (s.x + 8 + 21 * min before 2) (s.y + 4)) (if nat_lt before 2 then decimal number else codes "..") (decimal number)
 
@@ -130,17 +130,17 @@ pin_marks pins (pin.Mark mark) s = []
 abbrev pub if_shown : Bool → List Shape → List Shape
 if_shown shown shapes = if shown then shapes else []
 
--- the pin stands there from now on
+-- sets the spot of the pin
 abbrev pub set_pin : Bool → Pin → Spot → Drawn → Drawn
 set_pin shown p s d =
     record d { pins = insert_entry pin_cmp d.pins p s; marks = d.marks ++ if_shown shown (pin_marks (insert_entry pin_cmp d.pins p s) p s) }
 
--- a line from where the pin stands, if it does
+-- a line from the spot of the pin, if it has one
 abbrev pub join_line : Style → Spot → Option Spot → List Shape
 join_line style to None = []
 join_line style to (Some from) = Line style from to ∷ []
 
--- a bar from where the transaction began; neighbours stand side by side
+-- a bar from the begin of the transaction; neighbours are side by side
 abbrev pub bar : Here → ℕ → Spot → Shape
 bar here place from = Area Bar (spot (here.x + 2 + 5 * (place % 3)) from.y) (size 4 (here.y + 5 - from.y))
 
@@ -183,7 +183,7 @@ draw_row d row = acts (here_of row d) row.acts (with_words (here_of row d) row d
 
 -- ---- the whole
 
--- domain 0 stands from the beginning on
+-- domain 0 exists from the beginning on
 abbrev pub opening : Frame → Drawn
 opening frame = set_pin true (pin.Commit 0 0) (spot (column_x frame 0) top) (record { frame = frame; pins = []; lines = []; marks = []; rows = 0 })
 
@@ -206,11 +206,11 @@ axis d domain =
 abbrev pub domain_shapes : Drawn → ℕ → List Shape
 domain_shapes d domain = axis d domain ∷ plain Heading (column_x d.frame domain - 28) 26 (domain_name domain) ∷ []
 
--- how high the legend is
+-- the height of the legend
 abbrev pub legend_height : ℕ
 legend_height = 226
 
--- and how wide
+-- its width
 abbrev pub legend_width : ℕ
 legend_width = 520
 

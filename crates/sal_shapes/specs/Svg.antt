@@ -11,8 +11,8 @@ use Rattle.sal_shapes.specs.declared.svg.TheConstants.{HEAD, LEGEND, STYLES}
 
 -- ---- texts
 
--- A byte of a text behind these two. What marks up has a name; XML has no place for control characters, and none for U+FFFE and
--- U+FFFF, for which U+FFFD stands.
+-- A byte of a text after the bytes p and q. A markup character is written as an entity; control characters, which XML does not allow, as spaces, and
+-- U+FFFE and U+FFFF as U+FFFD.
 abbrev pub escape : ℕ → ℕ → ℕ → List ℕ
 escape p q b =
     if nat_eq b 38 then codes "&amp;"
@@ -80,7 +80,7 @@ shape_text (Words style at text title) = element (codes "text") style ++ (two (c
 abbrev pub head_text : Size → List ℕ
 head_text size = HEAD.now ++ (two (codes "width") size.width (codes "height") size.height ++ (codes ">\n" ++ STYLES.now))
 
--- the legend stands below
+-- the legend is below
 abbrev pub tail_text : ℕ → List ℕ
 tail_text y = codes "<g transform='translate(8," ++ (decimal y ++ (codes ")'>\n" ++ (LEGEND.now ++ codes "</g>\n</svg>\n")))
 

@@ -1,4 +1,4 @@
-//! The picture row by row: where each pin stands, the lines, and what stands over them.
+//! The picture row by row: the spot of each pin, the lines, and the shapes above them.
 ghost use Rattle.std.specs.Prelude.{◌≡◌, ◌<◌, ◌≤◌, ◌+◌, ◌++◌, ◌∷◌, ◌^◌, [], true, false, IfOk, OnOk, length, map, if◌then◌else◌};
 ghost use Rattle.std.specs.List.{flat_map, fold, enumerate_from};
 ghost use Rattle.sal_shapes.specs.Shapes as spec;
@@ -11,13 +11,13 @@ use std::alloc::Global;
 use std::collections::BTreeMap;
 use std::marker::Model;
 
-/// How high the legend is, in pixels.
+/// The height of the legend, in pixels.
 const LEGEND_HEIGHT: u64 = 226;
 
-/// And how wide.
+/// Its width.
 const LEGEND_WIDTH: u64 = 520;
 
-/// What is drawn so far. A contract sees it as the definitions have it.
+/// The picture so far. A contract sees it as its definition.
 #[derive(Drop)]
 pub(crate) struct Drawing {
     frame: Frame,
@@ -59,14 +59,14 @@ impl Drawing {
         Ok(drawing)
     }
 
-    // Where the pin stands.
+    // The spot of the pin.
     fn found(&self, pin: Pin) -> Option<Spot>
         ensures { result ≡ spec.found pin self.now.pins }
     {
         self.pins.get(&pin).copied()
     }
 
-    // The pin stands there from now on.
+    // Sets the spot of the pin.
     fn set(&mut self, alloc: Global, shown: bool, pin: Pin, spot: Spot) -> Result<(), NoMemory>
         requires x { spot.x ≤ 2 ^ 43 }
         requires y { spot.y ≤ 2 ^ 42 }
@@ -79,7 +79,7 @@ impl Drawing {
         Ok(())
     }
 
-    // What a pin shows of itself.
+    // Draws the mark of a pin.
     fn mark(&mut self, alloc: Global, pin: Pin, spot: Spot) -> Result<(), NoMemory>
         requires x { spot.x ≤ 2 ^ 43 }
         requires y { spot.y ≤ 2 ^ 42 }
@@ -96,7 +96,7 @@ impl Drawing {
         }
     }
 
-    // Whether the domain's commit of this number stands at the spot.
+    // Whether the spot is that of the domain's commit with this number.
     fn stands_at(&self, domain: u32, number: u64, spot: Spot) -> bool
         ensures { result ≡ spec.stands_at self.now.pins domain number spot }
     {
@@ -106,7 +106,7 @@ impl Drawing {
         }
     }
 
-    // Where the number of a commit goes beside those of the commits at its spot, 2 for two dots.
+    // The position of a commit's number beside those of the commits at its spot; 2 means two dots.
     fn beside(&self, domain: u32, number: u64, spot: Spot) -> u64
         ensures { result ≡ spec.beside self.now.pins domain number spot }
     {
@@ -126,7 +126,7 @@ impl Drawing {
         append(&mut self.marks, Shape::Point { style, at })
     }
 
-    // A line from where the pin stands, if it does.
+    // A line from the spot of the pin, if it has one.
     fn join(&mut self, here: Here, style: Style, pin: Pin) -> Result<(), NoMemory>
         requires { spec.IsNear here }
         ensures { OnOk result (self.new ≡ spec.act here self.old (Act.Joins style pin)) }
@@ -141,7 +141,7 @@ impl Drawing {
         }
     }
 
-    // A bar from where the transaction began.
+    // A bar from the begin of the transaction.
     fn span(&mut self, here: Here, place: u64) -> Result<(), NoMemory>
         requires { spec.IsNear here }
         ensures { OnOk result (self.new ≡ spec.act here self.old (Act.Spans place)) }
@@ -179,7 +179,7 @@ impl Drawing {
         Ok(())
     }
 
-    // Where the row stands.
+    // The position of the row.
     fn here_of(&self, row: &Row) -> Here
         requires { self.now.rows < 2 ^ 32 }
         ensures here { result ≡ spec.here_of row.now self.now }
@@ -270,7 +270,7 @@ impl Drawing {
         append(out, lane_heading(alloc, x, name)?)
     }
 
-    // Where the pin stands, or else the other height.
+    // The height of the pin's spot, or else the other height.
     fn height_of(&self, pin: Pin, other: u64) -> u64
         ensures { result ≡ spec.height_of (spec.found pin self.now.pins) other }
     {
@@ -348,7 +348,7 @@ impl Drawing {
     }
 }
 
-// A transaction that began there and ends here.
+// The bar of a transaction that began at this index and ends here.
 fn bar(here: Here, place: u64, from: Spot) -> Shape
     requires { spec.IsNear here }
     ensures { result ≡ spec.bar here place from }
@@ -376,7 +376,7 @@ fn lane_area(x: u64, size: Size) -> Shape
     }
 }
 
-/// The picture of a scene, of fewer than 2^32 lanes, domains and rows. It fails only where memory runs out.
+/// The picture of a scene, of fewer than 2^32 lanes, domains and rows. It fails only if memory runs out.
 pub fn picture_of(alloc: Global, scene: Scene) -> Result<Picture, NoMemory>
     requires lanes { length scene.lanes < 2 ^ 32 }
     requires domains { length scene.domains < 2 ^ 32 }

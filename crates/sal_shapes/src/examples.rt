@@ -1,4 +1,4 @@
-//! Worked examples. Each function does nothing; its contract says what the definitions give, and the proof computes it.
+//! Worked examples. Each function does nothing; its contract states what the definitions give, and the proof computes it.
 ghost use Rattle.std.specs.Prelude.{◌≡◌, [], ◌∷◌, true, false, codes};
 ghost use Rattle.sal_shapes.specs.declared.scene.Shape.TheVariants as shape;
 ghost use Rattle.sal_shapes.specs.declared.scene.Style.TheVariants as style;
@@ -6,7 +6,7 @@ ghost use Rattle.sal_shapes.specs.Labels.{cut, label_text};
 ghost use Rattle.sal_shapes.specs.Shapes.{size, spot};
 ghost use Rattle.sal_shapes.specs.Svg.{escaped, shape_text};
 
-/// What marks up is written by its name, and what XML has no place for is replaced.
+/// Markup characters are written as entities, and characters that XML does not allow are replaced.
 pub fn texts_are_escaped()
     ensures marks { escaped (codes "<a & b>") ≡ codes "&lt;a &amp; b&gt;" }
     ensures control { escaped (97 ∷ 10 ∷ 0 ∷ []) ≡ 97 ∷ 32 ∷ 32 ∷ [] }
@@ -14,7 +14,7 @@ pub fn texts_are_escaped()
     ensures other { escaped (239 ∷ 191 ∷ 189 ∷ []) ≡ 239 ∷ 191 ∷ 189 ∷ [] }
 {}
 
-/// A label is cut behind a whole character.
+/// A label is cut after a whole character.
 pub fn labels_are_cut()
     ensures short { cut 3 (codes "abc") ≡ codes "abc" }
     ensures long { cut 3 (codes "abcd") ≡ codes "abc.." }

@@ -1,4 +1,4 @@
-//! Where things stand: the lanes of the clients, the columns of the domains, and the rows.
+//! The layout: the lanes of the clients, the columns of the domains, and the rows.
 ghost use Rattle.std.specs.Prelude.{◌≡◌, ◌<◌, ◌≤◌, ◌^◌, length, nat_eq};
 ghost use Rattle.std.specs.List.{fold, position_or_len};
 ghost use Rattle.sal_shapes.specs.Shapes as spec;
@@ -6,13 +6,13 @@ ghost use Rattle.sal_shapes.specs.Shapes as spec;
 use crate::scene::{Pin, Row, Spot};
 use sal_types::Seq;
 
-/// How many rows, lanes or domains a picture has at most.
+/// The largest number of rows, lanes or domains of a picture.
 pub const MAX_PARTS: usize = 4294967295;
 
-/// At which height the openings stand, and what stands above the first row.
+/// The height of the openings, above the first row.
 pub(crate) const TOP: u64 = 40;
 
-/// How many bytes of a label are shown, the width of a client's lane, where the domains begin, and these in the order of their columns.
+/// The number of bytes of a label that are shown, the width of a client's lane, the left edge of the domains, and the domains in column order.
 #[derive(Drop)]
 pub struct Frame {
     pub room: usize,
@@ -21,7 +21,7 @@ pub struct Frame {
     pub domains: Seq<u32>,
 }
 
-/// Where an entry stands: the left edge of its lane, the middle of its row, and whether it is drawn.
+/// The position of an entry: the left edge of its lane, the middle of its row, and whether it is drawn.
 #[derive(Clone, Copy)]
 pub struct Here {
     pub x: u64,
@@ -29,7 +29,7 @@ pub struct Here {
     pub shown: bool,
 }
 
-// How long the longest label is, and 8 at least.
+// The length of the longest label, at least 8.
 fn longest(rows: &[Row]) -> usize
     ensures { result ≡ fold spec.longer 8 rows.now }
 {
@@ -40,7 +40,7 @@ fn longest(rows: &[Row]) -> usize
     most
 }
 
-// How many bytes of a label are shown.
+// The number of bytes of a label that are shown.
 fn room_for(lanes: u32) -> usize
     ensures room { result ≡ spec.room_for lanes }
     ensures few { result ≤ 42 }
@@ -85,7 +85,7 @@ pub(crate) fn frame_of(lanes: u32, rows: &[Row], domains: Seq<u32>) -> Frame
 }
 
 impl Frame {
-    /// Where the domain's line stands.
+    /// The position of the domain's line.
     pub(crate) fn column_x(&self, domain: u32) -> u64
         requires { spec.Fits self.now }
         ensures x { result ≡ spec.column_x self.now domain }
@@ -95,7 +95,7 @@ impl Frame {
         self.side + 40 + 70 * (index as u64)
     }
 
-    /// Where the pin stands that the entry sets.
+    /// The spot of a pin that the entry sets.
     pub(crate) fn spot_of(&self, here: Here, pin: Pin) -> Spot
         requires fits { spec.Fits self.now }
         requires near { spec.IsNear here }
@@ -110,7 +110,7 @@ impl Frame {
         Spot { x, y: here.y }
     }
 
-    /// Where a line from the pin to the entry ends.
+    /// The end of a line from the pin to the entry.
     pub(crate) fn end_of(&self, here: Here, pin: Pin) -> Spot
         requires fits { spec.Fits self.now }
         requires near { spec.IsNear here }
@@ -124,7 +124,7 @@ impl Frame {
     }
 }
 
-// The domain in whose column the pin stands.
+// The domain whose column has the pin.
 fn domain_of(pin: Pin) -> Option<u32>
     ensures { result ≡ spec.domain_of pin }
 {
@@ -134,7 +134,7 @@ fn domain_of(pin: Pin) -> Option<u32>
     }
 }
 
-// The first place at which the domain stands, or how many there are.
+// The first index of the domain, or the number of domains.
 fn index_of(domains: &Seq<u32>, domain: u32) -> usize
     ensures index { result ≡ position_or_len (λ d. nat_eq d domain) domains.now }
     ensures within { result ≤ length domains.now }

@@ -6,17 +6,17 @@ use crate::pieces::push;
 use sal_types::{NoMemory, Seq, append};
 use std::alloc::Global;
 
-/// How many bytes of a label are shown.
+/// The number of bytes of a label that are shown.
 const ROOM: usize = 42;
 
-// Whether the byte goes on with the character before it.
+// Whether the byte continues the character before it.
 fn goes_on(b: u8) -> bool
     ensures { result ≡ spec.goes_on b }
 {
     128 <= b && b < 192
 }
 
-/// Adds the first characters of a text, so many bytes.
+/// Appends the first characters of a text, `room` bytes of it.
 pub(crate) fn push_cut(out: &mut Vec<u8>, room: usize, text: &[u8]) -> Result<(), NoMemory>
     ensures { OnOk result (out.new.items ≡ out.old.items ++ spec.cut room text.now) }
 {
@@ -30,7 +30,7 @@ pub(crate) fn push_cut(out: &mut Vec<u8>, room: usize, text: &[u8]) -> Result<()
     Ok(())
 }
 
-// What stands before the first space.
+// The text before the first space.
 fn first_word(text: &[u8]) -> &[u8]
     ensures { result.now ≡ spec.first_word text.now }
 {
@@ -42,7 +42,7 @@ fn first_word(text: &[u8]) -> &[u8]
     text
 }
 
-/// The label of a step, which tells its word and the reply, or the step itself where it is done and has nothing more to tell.
+/// The label of a step: its word and the reply, or the step itself if it is done and its reply has nothing else.
 pub fn label_of(alloc: Global, ok: bool, step: &[u8], replied: &[u8]) -> Result<Seq<u8>, NoMemory>
     ensures { IfOk result (λ label. label ≡ spec.label_text ok step.now replied.now) }
 {

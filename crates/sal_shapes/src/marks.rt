@@ -1,4 +1,4 @@
-//! The texts of the picture, at their places.
+//! The texts of the picture, with their positions.
 ghost use Rattle.std.specs.Prelude.{◌≡◌, ◌≤◌, ◌+◌, ◌-◌, ◌^◌, IfOk, codes, decimal, if◌then◌else◌, nat_lt};
 ghost use Rattle.sal_shapes.specs.Labels.{cut};
 ghost use Rattle.sal_shapes.specs.Shapes as spec;
@@ -10,7 +10,7 @@ use crate::scene::{Row, Shape, Spot, Style};
 use sal_types::{NoMemory, Seq, Str};
 use std::alloc::Global;
 
-// A second list of the same bytes.
+// A copy of the bytes.
 fn bytes(alloc: Global, text: &[u8]) -> Result<Seq<u8>, NoMemory>
     ensures { IfOk result (λ it. it ≡ text.now) }
 {
@@ -62,7 +62,7 @@ fn number_title(alloc: Global, n: u64) -> Result<Seq<u8>, NoMemory>
     Ok(Seq::from_items(title))
 }
 
-/// The number of a commit, at this place beside those of the commits at its spot, or two dots.
+/// The number of a commit, at this position beside those of the commits at its spot, or two dots.
 pub(crate) fn number_words(
     alloc: Global,
     spot: Spot,
@@ -95,7 +95,7 @@ pub(crate) fn place_words(alloc: Global, y: u64, place: u64) -> Result<Shape, No
     number(alloc, Style::Place, Spot { x: 40, y: y + 4 }, place)
 }
 
-// The first characters of a text, so many bytes.
+// The first characters of a text, `room` bytes of it.
 fn cut(alloc: Global, room: usize, text: &[u8]) -> Result<Seq<u8>, NoMemory>
     ensures { IfOk result (λ it. it ≡ cut room text.now) }
 {
@@ -104,7 +104,7 @@ fn cut(alloc: Global, room: usize, text: &[u8]) -> Result<Seq<u8>, NoMemory>
     Ok(Seq::from_items(list))
 }
 
-/// The label of a row, cut to so many bytes, with its title.
+/// The label of a row, cut to `room` bytes, with its title.
 pub(crate) fn row_label(
     alloc: Global,
     here: Here,

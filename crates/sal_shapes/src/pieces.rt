@@ -1,4 +1,4 @@
-//! Pieces of the picture's text. Each function writes behind what stands there.
+//! Pieces of the picture's text. Each function appends to `out`.
 ghost use Rattle.std.specs.Prelude.{◌≡◌, ◌++◌, ◌∷◌, [], OnOk, decimal};
 ghost use Rattle.sal_shapes.specs.Svg as spec;
 
@@ -19,7 +19,7 @@ pub(crate) fn push_number(alloc: Global, out: &mut Vec<u8>, n: u64) -> Result<()
     push(out, digits.as_str())
 }
 
-/// The text as it stands between tags.
+/// The text, escaped for use between tags.
 pub(crate) fn push_escaped(out: &mut Vec<u8>, text: &[u8]) -> Result<(), NoMemory>
     ensures { OnOk result (out.new.items ≡ out.old.items ++ spec.escaped text.now) }
 {
@@ -33,7 +33,7 @@ pub(crate) fn push_escaped(out: &mut Vec<u8>, text: &[u8]) -> Result<(), NoMemor
     Ok(())
 }
 
-// A byte behind these two.
+// The byte `b` after the bytes `p` and `q`.
 fn push_byte(out: &mut Vec<u8>, p: u8, q: u8, b: u8) -> Result<(), NoMemory>
     ensures { OnOk result (out.new.items ≡ out.old.items ++ spec.escape p q b) }
 {

@@ -1,14 +1,14 @@
-//! What a picture is made of: rows with their texts and what they are joined to, and the shapes that they come to.
+//! The input of a picture, rows with their texts and their lines, and its shapes.
 use sal_types::{Seq, Str};
 
-/// A place of the picture that lines lead to, by the name of what stands there.
+/// A named place of the picture, where lines begin.
 #[derive(Clone, Copy, PartialEq, Eq, PartialOrd, Ord)]
 pub enum Pin {
-    /// The entry at this place of the log.
+    /// The entry at this index of the log.
     Entry { place: u64 },
     /// The domain's commit of this number; number 0 is its opening.
     Commit { domain: u32, number: u64 },
-    /// The end of the domain, which was unmounted.
+    /// The end of the domain, at its unmount.
     Gone { domain: u32 },
     /// The submission with this receipt.
     Receipt { number: u64 },
@@ -18,11 +18,11 @@ pub enum Pin {
     Request { id: u64 },
     /// The answer to the request with this id.
     Output { id: u64 },
-    /// The mark, where it was left last.
+    /// The mark, where it was set last.
     Mark { mark: u32 },
 }
 
-/// How a shape looks, and so what it means.
+/// How a shape looks, by its meaning.
 #[derive(Clone, Copy)]
 pub enum Style {
     /// A client's lane.
@@ -31,23 +31,23 @@ pub enum Style {
     Bar,
     /// A domain, from its opening to its end.
     Axis,
-    /// From the commit, or the pending submission, on which a transaction or a listener stands.
+    /// From the base of a transaction or a listener: a commit, or a pending submission.
     Stands,
     /// From a commit to the entry that decided it.
     Makes,
-    /// From a commit to the entry that is told of it as its own.
+    /// From a commit to the entry whose reply names it as done.
     Told,
     /// From the commit that a conflict names.
     Clash,
-    /// From what a submission failed by: one of its chain, or the end of its domain.
+    /// From the cause of a failed submission: a submission of its chain, or the end of its domain.
     Fails,
     /// From a commit to the batch that has it.
     Gives,
-    /// From a request to the client that was handed it, or from its answer.
+    /// From a request to the client that took it, or from its answer.
     Hands,
     /// From a mark to where it was found.
     Found,
-    /// From the transaction of a chain before.
+    /// From the previous transaction of a chain.
     Chained,
     /// A commit.
     Commit,
@@ -63,20 +63,20 @@ pub enum Style {
     Local,
     /// A step that was refused, or a submission that was not done.
     Refused,
-    /// The place of an entry.
+    /// The index of an entry.
     Place,
     /// The number of a commit.
     Number,
 }
 
-/// What an entry shows beside its texts.
+/// What an entry shows in addition to its texts.
 #[derive(Clone, Copy)]
 pub enum Act {
-    /// Later lines to the pin lead here.
+    /// Sets the pin here: later lines from it begin here.
     Sets { pin: Pin },
     /// A line leads from the pin to here.
     Joins { style: Style, pin: Pin },
-    /// The transaction that began at this place ends here.
+    /// The transaction that began at this index ends here.
     Spans { place: u64 },
 }
 
@@ -87,8 +87,8 @@ pub struct Made {
     pub number: u64,
 }
 
-/// A row of the picture: a step of the client in this lane, with the place of its entry if it is a shared call. A hidden row is
-/// not drawn; what it sets stands at the upper edge.
+/// A row of the picture: a step of the client in this lane, with the index of its entry if it is a shared call. A hidden row is
+/// not drawn; its pins are at the upper edge.
 #[derive(Drop)]
 pub struct Row {
     pub lane: u32,
@@ -100,7 +100,7 @@ pub struct Row {
     pub hidden: bool,
 }
 
-/// What is drawn: the headings of the lanes, the domains in the order of their columns, and the rows from above.
+/// The scene: the headings of the lanes, the domains in the order of their columns, and the rows from the top.
 #[derive(Drop)]
 pub struct Scene {
     pub lanes: Seq<Str>,
@@ -108,7 +108,7 @@ pub struct Scene {
     pub rows: Seq<Row>,
 }
 
-/// A spot, in pixels from the upper left.
+/// A spot, in pixels from the upper left corner.
 #[derive(Clone, Copy)]
 pub struct Spot {
     pub x: u64,
@@ -122,7 +122,7 @@ pub struct Size {
     pub height: u64,
 }
 
-/// A shape, in pixels from the upper left.
+/// A shape, in pixels from the upper left corner.
 #[derive(Drop)]
 pub enum Shape {
     Area {
@@ -147,7 +147,7 @@ pub enum Shape {
     },
 }
 
-/// A picture: its size in pixels, at which height its legend stands, and its shapes, the lower ones first.
+/// A picture: its size in pixels, the height of its legend, and its shapes, the lower ones first.
 #[derive(Drop)]
 pub struct Picture {
     pub size: Size,

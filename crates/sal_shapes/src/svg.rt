@@ -1,4 +1,4 @@
-//! From shapes to text. Each function writes behind what stands there.
+//! From shapes to text. Each function appends to `out`.
 ghost use Rattle.std.specs.Prelude.{◌≡◌, ◌++◌, IfOk, OnOk, codes};
 ghost use Rattle.std.specs.List.{flat_map};
 ghost use Rattle.sal_shapes.specs.Svg as spec;
@@ -12,7 +12,7 @@ use std::alloc::Global;
 pub const HEAD: &str =
     "<svg xmlns='http://www.w3.org/2000/svg' font-family='monospace' font-size='11'";
 
-/// The looks of the styles, and the paper.
+/// The looks of the styles, and the background.
 pub const STYLES: &str =
     "<defs><marker id='arrow' viewBox='0 0 8 8' refX='7' refY='4' markerWidth='8' markerHeight='8' orient='auto'><path d='M0 0L8 4L0 8z' fill='#6a2ca0'/></marker></defs>\n\
 <style>.paper{fill:#fff}.lane{fill:#f3f4f7}.bar{fill:#b9cfee;stroke:#4a6fa5;stroke-width:.7}\n\
@@ -24,7 +24,7 @@ line{fill:none}.axis{stroke:#aaa}.stands{stroke:#8a6d00;stroke-width:.8}.makes{s
 text{white-space:pre}.heading{font-weight:bold}.local{fill:#777}.refused{fill:#b00020;font-style:italic}.place{fill:#888;text-anchor:end}.number{fill:#1b6e2f}</style>\n\
 <rect class='paper' width='100%' height='100%'/>\n";
 
-/// What each style means, below the picture.
+/// The meaning of each style, below the picture.
 pub const LEGEND: &str =
     "<rect class='bar' x='16' y='8' width='4' height='11'/><text x='50' y='17'>a transaction, from begin to submit or cancel; gray: its local steps</text>\n\
 <line class='stands' x1='0' y1='29' x2='40' y2='29'/><text x='50' y='33'>the commit, or the pending submission, on which it stands</text>\n\
@@ -40,7 +40,7 @@ pub const LEGEND: &str =
 <circle class='opening' cx='18' cy='189' r='4'/><text x='50' y='193'>a domain's opening, or its end</text>\n\
 <circle class='refusal' cx='18' cy='205' r='4'/><text class='refused' x='50' y='209'>refused</text>\n";
 
-/// The text of a picture, as Scalable Vector Graphics. It fails only where memory runs out.
+/// The text of a picture, as Scalable Vector Graphics. It fails only if memory runs out.
 pub fn svg_of(alloc: Global, picture: &Picture) -> Result<Vec<u8>, NoMemory>
     ensures { IfOk result (λ text. text.items ≡ spec.svg_of picture.now) }
 {

@@ -1,4 +1,4 @@
-//! The bytes of YANG text, and the words that stand unquoted.
+//! The bytes of YANG text, and unquoted strings.
 ghost use Rattle.std.specs.Prelude.{◌≡◌, ◌+◌, ◌≤◌, length, take, drop, slice_index};
 ghost use Rattle.std.specs.List.{list_all};
 ghost use Rattle.sal_stmt.specs.Words as spec;
@@ -61,7 +61,7 @@ fn word_len(bytes: &[u8]) -> usize
     bytes.len()
 }
 
-/// The word at the front, and what follows it.
+/// The unquoted string at the front, and the rest of the text.
 pub(crate) fn split_word(s: &str) -> (&str, &str)
     ensures word { result.0.now ≡ spec.word s.now }
     ensures rest { result.1.now ≡ spec.after_word s.now }

@@ -1,28 +1,28 @@
-//! Why a text is no statement.
+//! Why a text is not one statement.
 ghost use Rattle.std.specs.Prelude.{◌≡◌};
 ghost use Rattle.sal_stmt.specs.declared.fault.StmtFault.TheVariants.{NoMemory};
 
 use std::alloc::{AllocError, AllocFailed};
 use thiserror::Error;
 
-/// The first fault of a text. `at` is how many bytes stand before it.
+/// The first fault of a text. `at` is its byte offset.
 #[derive(Clone, Copy, Debug, PartialEq, Eq, Error)]
 pub enum StmtFault {
-    /// The first byte at which no token can stand, or a token that the form does not allow there. It is 0 for a text of
+    /// The first byte at which no token can begin, or a token that the grammar does not allow there. The offset is 0 for a text of
     /// separators alone.
     #[error("bad token at byte {at}")]
     BadToken { at: u32 },
-    /// The backslash of a pair that is no escape.
+    /// The backslash of an unknown escape.
     #[error("bad escape at byte {at}")]
     BadEscape { at: u32 },
-    /// The text ends too early. Inside a quoted string or a block comment: its first byte. Else inside a statement before
-    /// its `;` or `{`: its keyword. Else inside a block: the `{` of the innermost.
+    /// The text ends too early. Inside a quoted string or a block comment: its first byte. Inside a statement before
+    /// its `;` or `{`: its keyword. Inside a block: the `{` of the innermost.
     #[error("unclosed at byte {at}")]
     Unclosed { at: u32 },
     /// The `{` of a 65th block that would be open.
     #[error("too deep at byte {at}")]
     TooDeep { at: u32 },
-    /// The first token behind the one statement.
+    /// The first token after the one statement.
     #[error("text after the statement at byte {at}")]
     TextAfter { at: u32 },
     /// Memory ran out.

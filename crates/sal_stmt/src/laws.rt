@@ -1,16 +1,16 @@
-//! Laws of the definitions: the grammar of statements and the reader say the same. Each function does nothing; its
+//! Laws of the definitions: the grammar of statements and the reader agree. Each function does nothing; its
 //! contract is the law.
 ghost use Rattle.std.specs.Prelude.{◌≡◌, codes, [], ◌∷◌};
 ghost use Rattle.sal_stmt.specs.declared.stmt.Stmt.{Stmt as Statement};
 ghost use Rattle.sal_stmt.specs.Spelling.{Spells, ReadIsSpelled, SpelledIsRead, SpelledOnce};
 ghost use Rattle.sal_stmt.specs.Examples as example;
 
-/// A text that is read as a statement spells it: what is read is in the grammar.
+/// If a text is read as a statement, the grammar derives that statement from it.
 pub fn what_is_read_is_spelled()
     ensures { ReadIsSpelled }
 {}
 
-/// A text that spells a statement is read as it: all that is in the grammar is read.
+/// If the grammar derives a statement from a text, the text is read as that statement.
 pub fn what_is_spelled_is_read()
     ensures { SpelledIsRead }
 {}
@@ -20,7 +20,7 @@ pub fn a_text_spells_one_statement()
     ensures { SpelledOnce }
 {}
 
-/// Texts that spell a statement, and texts that spell none.
+/// Texts from which the grammar derives a statement, and texts from which it derives none.
 pub fn spelling_examples()
     ensures joined { Spells (codes "x\"a\"+'b';") (example.plain "x" 0 "ab" []) }
     ensures gaps { Spells (codes "a/*;*/b//;\n;") (example.plain "a" 0 "b" []) }

@@ -1,30 +1,30 @@
-//! YANG text, read into a tree of statements: the lexical and statement rules of RFC 7950 section 6, and nothing above them.
+//! YANG text, read into a tree of statements: the lexical and statement rules of RFC 7950 section 6 only.
 //!
 //! | item | what it is |
 //! |---|---|
 //! | `read_module` | the one statement of a text, or the first fault in it |
-//! | `Stmt` | a statement: keyword, argument, the byte at which it stands, and the statements of its block |
-//! | `StmtFault` | the six faults, five of them with the byte at which they stand |
+//! | `Stmt` | a statement: keyword, argument, byte offset, and the statements of its block |
+//! | `StmtFault` | the six faults, five of them with their byte offset |
 //! | `is_identifier`, `is_keyword` | the two forms of a name: `leaf`, and `leaf` or `ext:leaf` |
 //!
-//! Which statements may stand where, and what their arguments may be, is not looked at here.
+//! Which statements may appear where, and which arguments they may have, is checked in `sal_module`.
 //!
 //! ```
 //! let stmt = read_module(alloc, "module m { namespace 'urn:' + \"m\"; prefix p; }")?;
 //! // keyword `module`, argument `m`, at 0, with two statements at 11 and 33
 //! ```
 //!
-//! `specs/Text.antt` says what a text stands for, from its separators to its one statement; `specs/Quoted.antt` has the
-//! lines, the indentation and the escapes of a string in double quotes. `specs/Spelling.antt` is the grammar, which knows
-//! of no reader: a text that is read as a statement spells it, a text that spells a statement is read as it, and so no
-//! text spells two (`laws.rt`).
+//! `specs/Text.antt` defines the reader, from separators to the one statement of a text; `specs/Quoted.antt` defines the
+//! lines, the indentation and the escapes of a string in double quotes. `specs/Spelling.antt` is the grammar, which does
+//! not mention the reader. `laws.rt`: the reader reads a text as a statement exactly if the grammar derives that statement
+//! from it, so a text has at most one.
 //!
-//! The choices of this reader: control characters other than tab, CR and LF stand nowhere; a pair of a backslash and any
+//! Choices of this reader: control characters other than tab, CR and LF are faults everywhere; a backslash before any
 //! byte but `n`, `t`, `"` and `\` is a fault; CR LF is read as LF in a string in double quotes; a tab before a quote
-//! counts as eight columns; separators stand only where they are needed to part two tokens, so `x"a";` is `x "a";`.
+//! counts as eight columns; separators are required only between two tokens that would join, so `x"a";` is `x "a";`.
 //!
-//! Cost: linear in the text, whatever its shape, and one allocation or a few for each statement and string. At most 65
-//! calls stand in one another, since no more than 64 blocks may be open. A text has fewer than 2^32 bytes.
+//! Cost: linear in the text, whatever its shape, and one allocation or a few for each statement and string. Recursion is at
+//! most 65 calls deep, since no more than 64 blocks may be open. A text has fewer than 2^32 bytes.
 #![tactic(auto)]
 
 mod bytes;

@@ -12,7 +12,7 @@ use crate::stmt::Stmt;
 use sal_types::{Seq, Str, tail};
 use std::alloc::Global;
 
-/// How many blocks may be open at once.
+/// The largest number of open blocks.
 const MAX_BLOCKS: u32 = 64;
 
 #[inline]
@@ -35,7 +35,7 @@ fn is_end(s: &str) -> bool
 }
 
 impl<'a> Source<'a> {
-    /// After a string: what `+` joins to it, behind the text so far.
+    /// After a string: the strings that `+` joins to it, appended to the text so far.
     fn joined<'s>(
         &self,
         statement: u32,
@@ -104,7 +104,7 @@ impl<'a> Source<'a> {
         Ok((String::from_str(self.alloc, word)?, Some(text), rest))
     }
 
-    /// The statements of the block that was opened at this place, and its `}`.
+    /// The statements of the block that was opened at this offset, and its `}`.
     #[cycle(statements)]
     fn block<'s>(
         &self,
@@ -136,7 +136,7 @@ impl<'a> Source<'a> {
         }
     }
 
-    /// A statement, in which this many blocks may be opened in one another.
+    /// A statement, with at most this many nested blocks.
     #[cycle(statements)]
     fn statement<'s>(&self, levels: u32, s: &'s str) -> Result<(Stmt, &'s str), StmtFault>
         ensures value { Gives (λ p. (p.0, p.1.now)) result (spec.statement self.now.text.now levels s.now) }
@@ -186,8 +186,8 @@ fn starts_token(s: &str) -> bool
     c == b';' || c == b'{' || c == b'}' || c == b'\'' || c == b'"' || !split_word(s).0.is_empty()
 }
 
-/// The one statement of a text, with separators before and behind it. The fault is the first in the text, and one that
-/// the end of the text makes stands there; `NoMemory` comes only where memory ran out.
+/// The one statement of a text, with separators before and after it. The error is the first fault in the text, or the fault
+/// that the early end of the text makes (`StmtFault`); `NoMemory` is returned only if memory ran out. RFC 7950 section 6.
 #[tactic(auto, unfolding(crate::specs::Text::read))]
 pub fn read_module(alloc: Global, text: &str) -> Result<Stmt, StmtFault>
     requires { length text.now < 2 ^ 32 }

@@ -9,9 +9,9 @@ use std::alloc::Global;
 pub struct Stmt {
     /// An identifier, or two of them joined by `:`.
     pub keyword: Str,
-    /// What the argument stands for: quotes, escapes and indentation are resolved.
+    /// The value of the argument: quotes, escapes and indentation are resolved.
     pub arg: Option<Str>,
-    /// How many bytes of the text stand before the keyword.
+    /// The byte offset of the keyword in the text.
     pub at: u32,
     /// The statements of its block, in the order of the text.
     pub subs: Seq<Stmt>,

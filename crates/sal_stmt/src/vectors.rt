@@ -1,11 +1,11 @@
-//! Examples, computed from the definitions: each clause is a text and what it stands for.
+//! Examples, computed from the definitions: each clause is a text and its statement or fault.
 ghost use Rattle.std.specs.Prelude.{◌≡◌, codes, [], ◌∷◌, Ok, Err};
 ghost use Rattle.sal_stmt.specs.Text.{read};
 ghost use Rattle.sal_stmt.specs.Examples as example;
 
 use crate::fault::StmtFault;
 
-/// The definitions give what the examples say. A call does nothing: its clauses are the laws.
+/// The examples as clauses. A call does nothing.
 pub fn examples()
     ensures trimmed { read (codes example.trimmed) ≡ Ok (example.plain "x" 2 "a\nb" []) }
     ensures kept { read (codes example.kept) ≡ Ok (example.plain "x" 2 "a\n  b" []) }

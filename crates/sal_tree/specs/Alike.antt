@@ -1,4 +1,4 @@
--- What the stamps of two trees say of a path.
+-- The stamps of two trees at a path.
 use Rattle.std.specs.Prelude.{Bool, true, false, ◌==◌, Option, Some, None}
 use Rattle.sal_node.specs.Tree.{Tree}
 

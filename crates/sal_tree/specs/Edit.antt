@@ -1,4 +1,4 @@
--- The trees that edits make, node by node. Contracts above this crate speak of rows and stamps in their place.
+-- The trees that edits make, node by node. Contracts above this crate use rows and stamps instead.
 use Rattle.std.specs.Prelude.{ℕ, List, [], ◌∷◌, Option, Some, None, unwrap_or, if◌then◌else◌}
 use Rattle.std.specs.List.{fold}
 use Rattle.sal_types.specs.declared.value.Step.{Step}
@@ -20,7 +20,7 @@ kids_at (Some t) = t.kids
 abbrev pub root_of : ℕ → Option Tree → Tree
 root_of s o = unwrap_or o (blank s)
 
--- a cell over what stands there
+-- the node with this cell and with the children of the old node
 abbrev pub celled : ℕ → Option Tree → Cell → Option Tree
 celled s o c = Some (record { stamp = s; cell = Some c; kids = kids_at o })
 

@@ -1,4 +1,4 @@
--- How a tree that was made of another one tells by its stamps what was touched.
+-- What the stamps of an edited tree say about touches.
 use Rattle.std.specs.Prelude.{◌≡◌, ◌≢◌, ℕ, Bool, true, false, List, Some}
 use Rattle.sal_types.specs.declared.value.Step.{Step}
 use Rattle.sal_node.specs.Tree.{Tree}
@@ -8,8 +8,8 @@ use Rattle.sal_tree.specs.Grow.{at}
 abbrev pub exactly : ℕ → ℕ → Type 0
 exactly s k = k ≡ s
 
--- The tree u was made of the tree t: a node where something was touched has one of the new stamps, and where nothing
--- was touched stands the same node as before, with all that is below it, or none as before.
+-- The tree u was made from the tree t: a touched node has one of the new stamps, and where nothing was touched the node, with all
+-- below it, is the same as before, or absent as before.
 pub record Follows (IsNew : ℕ → Type 0) (touched : List Step → Bool) (t u : Tree) : Type 0 where
   pub stamped : (p : List Step) (n : Tree) → touched p ≡ true → at (Some u) p ≡ Some n → IsNew n.stamp
   pub kept : (p : List Step) → touched p ≡ false → at (Some u) p ≡ at (Some t) p

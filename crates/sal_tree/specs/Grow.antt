@@ -22,7 +22,7 @@ abbrev pub at : Option Tree → List Step → Option Tree
 at o [] = o
 at o (x ∷ p) = at (kid o x) p
 
--- a node that stands where it has a cell or children
+-- a node, if it has a cell or children
 abbrev pub standing : ℕ → Option Cell → List (Step × Tree) → Option Tree
 standing s None [] = None
 standing s None (e ∷ es) = Some (record { stamp = s; cell = None; kids = grove (e ∷ es) })
@@ -40,7 +40,7 @@ IsSound (Some t) = IsGrove t.kids
 abbrev pub blank : ℕ → Tree
 blank s = record { stamp = s; cell = None; kids = bare }
 
--- whether a node with rows stands there
+-- whether there is a node with rows
 abbrev pub present : Option Tree → Bool
 present None = false
 present (Some t) = is_filled t.cell t.kids

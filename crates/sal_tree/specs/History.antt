@@ -1,4 +1,4 @@
--- Commits of one store, each made of the one before.
+-- Commits of one store, each made from the one before.
 use Rattle.std.specs.Prelude.{◌≡◌, ◌⊎◌, ℕ, Bool, false, List, [], ◌∷◌, ◌||◌, ◌&&◌, not, if◌then◌else◌}
 use Rattle.sal_types.specs.declared.value.Step.{Step}
 use Rattle.sal_types.specs.declared.value.Store.{Store}
@@ -13,7 +13,7 @@ abbrev pub IsOneOf : List ℕ → ℕ → Type 0
 IsOneOf [] k = ⊥
 IsOneOf (s ∷ stamps) k = (k ≡ s) ⊎ IsOneOf stamps k
 
--- a commit of a store: the stamps that it gives, its operations and its tree
+-- a commit of a store: the stamps of its touched nodes, its operations and its tree
 pub record Done : Type 0 where
   pub stamps : List ℕ
   pub ops : List Op
@@ -28,7 +28,7 @@ abbrev pub newest : Tree → List Done → Tree
 newest t [] = t
 newest t (d ∷ ds) = newest d.tree ds
 
--- the stamps of the last commit that touched the path, or those given
+-- the stamps of the last commit that touched the path, or the given ones
 abbrev pub last_stamps : Store → List ℕ → Tree → List Done → List Step → List ℕ
 last_stamps s before t [] p = before
 last_stamps s before t (d ∷ ds) p = last_stamps s (if touches (rows_of t) s d.ops p then d.stamps else before) d.tree ds p

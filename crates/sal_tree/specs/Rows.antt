@@ -36,7 +36,7 @@ abbrev pub is_root : List Step → Bool
 is_root [] = true
 is_root (x ∷ p) = false
 
--- the cell of the first row, if that stands at the empty path
+-- the cell of the first row, if its path is empty
 abbrev pub first_cell : List Row → Option Cell
 first_cell [] = None
 first_cell (row ∷ rows) = if is_root row.path then Some row.cell else None

@@ -1,4 +1,4 @@
-//! What the stamps of two trees tell of a path.
+//! The stamps of two trees at a path.
 ghost use Rattle.std.specs.Prelude.{◌≡◌, Some};
 ghost use Rattle.sal_tree.specs.Grow.{at};
 ghost use Rattle.sal_tree.specs.Alike.{alike};
@@ -9,7 +9,7 @@ use sal_types::Path;
 
 /// Whether the path is absent in both trees, or present in both with one stamp. It takes no memory.
 ///
-/// Of two commits of one history it tells that none between them touched the path.
+/// For two commits of one history it says that no commit between them touched the path.
 pub fn is_alike(before: &Root, after: &Root, path: &Path) -> bool
     ensures { result ≡ alike (at (Some before.now) path.now) (at (Some after.now) path.now) }
 {

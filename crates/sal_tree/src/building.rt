@@ -1,4 +1,4 @@
-//! A tree made of its rows, from the leafs up.
+//! Builds a tree from its rows, from the leafs up.
 ghost use Rattle.std.specs.Prelude.{◌≡◌, ◌+◌, ◌≤◌, ◌<◌, ◌++◌, ◌∷◌, [], length, take, drop, IfOk};
 ghost use Rattle.sal_types.specs.Tree.{IsAscending};
 ghost use Rattle.sal_tree.specs.Rows.{rows_of, from_depth, first_cell, other_rows, begins, leading, is_root};
@@ -24,7 +24,7 @@ impl Root {
     }
 }
 
-// The node of the rows, whose paths are read from the depth on.
+// The node of the rows; their paths are read from the depth on.
 pub(crate) fn build(alloc: Global, rows: &[Row], depth: usize, stamp: u64) -> Result<Node, NoMemory>
     requires deep { depth ≤ 32 }
     requires ascending { IsAscending (from_depth depth rows.now) }
@@ -124,7 +124,7 @@ fn front(rows: &[Row], count: usize) -> &[Row]
     &rows[..count]
 }
 
-// The rows behind the first ones.
+// The rows after the first ones.
 fn behind(rows: &[Row], count: usize) -> &[Row]
     requires { count ≤ length rows.now }
     ensures { result.now ≡ drop count rows.now }

@@ -32,11 +32,11 @@ impl Duplicate for Pair {
     }
 }
 
-/// A commit of a domain: its number, the receipt that it was made for, the chain of its transaction, the operations of
-/// that, and the trees after it.
+/// A commit of a domain: its number, its receipt, the chain of its transaction, its operations, and the trees
+/// after it.
 ///
-/// Commit 0 is the opening: it has no chain and no operations. Its receipt is 0, and in a later epoch that of the commit with which
-/// the one before ended.
+/// Commit 0 is the opening: it has no chain and no operations. Its receipt is 0, or in a later epoch that of the last commit
+/// of the epoch before.
 #[derive(Drop)]
 pub struct Commit {
     pub number: u64,

@@ -22,9 +22,9 @@ use std::alloc::Global;
 use std::sync::Arc;
 
 impl Root {
-    /// The tree with the rows in place of what stands at the path and below it.
+    /// The tree with the rows in place of all at and below the path.
     ///
-    /// The nodes where it puts or takes away a row, and those above them, have the stamp; every other node is shared.
+    /// The nodes where it adds or removes a row, and those above them, have the stamp; every other node is shared.
     pub fn put(&self, alloc: Global, path: &Path, rows: &Rows, stamp: u64) -> Result<Root, NoMemory>
         requires { under rows.now path.now ≡ rows.now }
         ensures cells { IfOk result (λ r. (q : List Step) → cell (rows_of r) q ≡ cell_by (act_setting path.now (Put rows.now) q) (cell (rows_of self.now) q)) }
@@ -41,7 +41,7 @@ impl Root {
         Ok(after)
     }
 
-    /// The tree with the cells of the rows, and with all that stands beside them.
+    /// The tree with the cells of the rows; all other rows stay.
     ///
     /// The nodes of the rows, and those above them, have the stamp; every other node is shared.
     pub fn merge(
@@ -58,15 +58,15 @@ impl Root {
     {
         // For the proof alone: `node` says that the tree is whole.
         let _ = self.node();
-        // The path stands in the contract alone.
+        // Only the contract uses the path.
         let _ = path;
         let after = self.with_rows(alloc, rows.items(), stamp)?;
         Ok(after)
     }
 
-    /// The tree without what stands at the path and below it.
+    /// The tree without all at and below the path.
     ///
-    /// The nodes above what it takes away have the stamp; every other node is shared. Where nothing stands at the path it
+    /// The nodes above what it removes have the stamp; every other node is shared. If there is nothing at the path it
     /// is the whole tree, shared.
     pub fn delete(&self, alloc: Global, path: &Path, stamp: u64) -> Result<Root, NoMemory>
         ensures cells { IfOk result (λ r. (q : List Step) → cell (rows_of r) q ≡ cell_by (act_setting path.now Delete q) (cell (rows_of self.now) q)) }
@@ -79,7 +79,7 @@ impl Root {
         Ok(after)
     }
 
-    // The tree without the node at the path, or the same tree where no row stands there.
+    // The tree without the node at the path, or the same tree if it has no row there.
     fn cleared(&self, alloc: Global, path: &Path, stamp: u64) -> Result<Root, NoMemory>
         ensures { IfOk result (λ r. r ≡ without stamp self.now path.now) }
     {
@@ -147,7 +147,7 @@ impl Root {
     }
 }
 
-// A node with the cell and with the children that stood there.
+// A node with the cell and with the children of the old node.
 fn celled(alloc: Global, old: Option<&Arc<Node>>, cell: Cell, stamp: u64) -> Result<Node, NoMemory>
     ensures { IfOk result (λ n. n ≡ record { stamp = stamp; cell = Some cell; kids = kids_at (tree_at old.entry) }) }
 {

@@ -17,7 +17,7 @@ pub fn rows_of_the_sample()
     ensures nothing_below { at (Some without_leaf) leaf_path ≡ None }
 {}
 
-/// A deleted leaf: the rows that are left, and the stamps above it.
+/// A deleted leaf: the remaining rows, and the stamps above it.
 pub fn a_leaf_deleted()
     ensures tree { without 6 sample leaf_path ≡ without_leaf }
     ensures rows { rows_of without_leaf ≡ apply_ops sample_rows Config (one_op Config leaf_path Delete) }
@@ -25,7 +25,7 @@ pub fn a_leaf_deleted()
     ensures differs { alike (at (Some sample) box_path) (at (Some without_leaf) box_path) ≡ false }
 {}
 
-/// Where nothing stands a delete touches nothing, and a put or merge of the same cell still touches its path.
+/// A delete of an absent path touches nothing, and a put or merge of the same cell still touches its path.
 pub fn what_is_touched()
     ensures absent { act_touches [] leaf_path Delete [] ≡ false }
     ensures same_cell { act_touches sample_rows leaf_path (Merge sample_rows) leaf_path ≡ true }

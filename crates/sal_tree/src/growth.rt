@@ -24,6 +24,10 @@ pub(crate) fn grown(
 {
     match path {
         [] => Ok(new),
+        [step] => {
+            let node = replaced(alloc, old, step, new, stamp)?;
+            Ok(node)
+        }
         [step, rest @ ..] => {
             let child = grown(alloc, child_of(old, step), rest, new, stamp)?;
             let node = replaced(alloc, old, step, child, stamp)?;

@@ -6,14 +6,14 @@
 //! | `Pair` | the two trees of a domain, configuration and operational |
 //! | `Commit` | a commit of a domain: number, receipt, chain, operations, and the trees after it |
 //!
-//! `child_of`, `reached`, `is_present` and `have_same_stamp` are asked of nodes, for walks that go from node to node; `longer` is the
+//! `child_of`, `reached`, `is_present` and `have_same_stamp` are for walks from node to node; `longer` is the
 //! path to a child.
 //!
-//! An edit makes a new tree, which shares every node that it does not touch. The nodes that it touches, by their rows or
-//! by rows that stood below them, have the stamp of the edit. So two trees of one history have one stamp at a path
-//! exactly where nothing between them touched it (`is_alike`), and then the nodes there are the same.
+//! An edit makes a new tree, which shares every node that it does not touch. The nodes that it touches, by its rows or
+//! by rows that were below them, have the stamp of the edit. So two trees of one history have one stamp at a path
+//! exactly if no edit between them touched it (`is_alike`), and then the nodes there are the same.
 //!
-//! `specs/` has the rows of a tree (`Rows`), the node at a path (`Grow`), how stamps tell what was touched (`Follows`,
+//! `specs/` defines the rows of a tree (`Rows`), the node at a path (`Grow`), what stamps say about touches (`Follows`,
 //! `History`), which nodes may be a root (`Whole`), and what a graft is (`Graft`).
 //!
 //! ```
@@ -24,14 +24,14 @@
 //!
 //! | call | cost, for a path of d steps and lists of n entries on the way |
 //! |---|---|
-//! | `Root::get`, `Root::exists`, `is_alike` | d searches by halves, no memory |
-//! | `Root::delete`, `Root::put`, and each row of `Root::merge` | d nodes, each with a copy of one page of 64 children and of one sheet of 64 pages, and of a list of n / 4,096 sheets |
+//! | `Root::get`, `Root::exists`, `is_alike` | d binary searches, no memory |
+//! | `Root::delete`, `Root::put`, each row of `Root::merge` | d nodes, each with copies of a page, of a sheet, and of n / 4,096 references to sheets |
 //! | the rows of `Root::put` | one node for each path, as for `Root::from_rows` |
 //! | `Root::from_rows` | one node for each path, and d looks at each row |
 //! | `Root::rows` | linear in the rows below the path |
-//! | a copy of a `Root` or a `Pair` | one count, whatever the size |
+//! | a copy of a `Root` or a `Pair` | one counter increment, whatever the size |
 //!
-//! A tree is at most 32 steps deep, and so are all recursions. The costs do not hang on the values, but a step with
+//! A tree is at most 32 steps deep, and so are all recursions. The costs do not depend on the values, but a step with
 //! long keys is copied and compared at their length.
 #![tactic(auto)]
 

@@ -39,7 +39,7 @@ impl Root {
     }
 }
 
-// Puts the rows at a node and below it at the end; the node stands at the path.
+// Appends the rows at and below the node, whose path is given.
 fn list_rows(alloc: Global, into: &mut Vec<Row>, node: &Node, path: &Path) -> Result<(), NoMemory>
     requires { height node.now.kids + length path.now ≤ 32 }
     ensures { OnOk result (into.new.items ≡ into.old.items ++ from_path path.now (rows_of node.now)) }
@@ -53,7 +53,7 @@ fn list_rows(alloc: Global, into: &mut Vec<Row>, node: &Node, path: &Path) -> Re
     Ok(())
 }
 
-// Puts the row at a node at the end, if it has a cell.
+// Appends the row of a node, if it has a cell.
 fn list_cell(into: &mut Vec<Row>, node: &Node, path: &Path) -> Result<(), NoMemory>
     ensures { OnOk result (into.new.items ≡ into.old.items ++ from_path path.now (here node.now.cell)) }
 {
@@ -68,7 +68,7 @@ fn list_cell(into: &mut Vec<Row>, node: &Node, path: &Path) -> Result<(), NoMemo
     }
 }
 
-/// The path one step further down.
+/// The path with one more step.
 pub fn longer(path: &Path, step: &Step) -> Result<Path, NoMemory>
     requires { length path.now < 32 }
     ensures { IfOk result (λ p. p ≡ path.now ++ step.now ∷ []) }

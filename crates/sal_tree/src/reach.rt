@@ -1,4 +1,4 @@
-//! Nodes that are reached from a node of a tree.
+//! Nodes at steps below a node of a tree.
 ghost use Rattle.std.specs.Prelude.{◌≡◌};
 ghost use Rattle.sal_node.specs.Shape.{tree_at};
 ghost use Rattle.sal_tree.specs.Alike.{alike};
@@ -8,7 +8,7 @@ use sal_node::Node;
 use sal_types::Step;
 use std::sync::Arc;
 
-/// The child at the step; none where there is no node, or no such child. It takes no memory.
+/// The child at the step; none if there is no node, or no such child. It takes no memory.
 pub fn child_of<'a>(node: Option<&'a Arc<Node>>, step: &Step) -> Option<&'a Arc<Node>>
     requires { IsSound (tree_at node) }
     ensures kid { tree_at result ≡ kid (tree_at node.entry) step.now }
@@ -32,7 +32,7 @@ pub fn reached<'a>(node: Option<&'a Arc<Node>>, steps: &[Step]) -> Option<&'a Ar
     }
 }
 
-/// Whether there is a node, with a row at it or below it.
+/// Whether there is a node, with a row at or below it.
 pub fn is_present(node: Option<&Arc<Node>>) -> bool
     ensures { result ≡ present (tree_at node.entry) }
 {
@@ -42,7 +42,7 @@ pub fn is_present(node: Option<&Arc<Node>>) -> bool
     }
 }
 
-/// Whether there is no node in either place, or one in both and with one stamp.
+/// Whether both nodes are absent, or both present with one stamp.
 pub fn have_same_stamp(before: Option<&Arc<Node>>, after: Option<&Arc<Node>>) -> bool
     ensures { result ≡ alike (tree_at before.entry) (tree_at after.entry) }
 {

@@ -1,4 +1,4 @@
-//! The root of a tree, and what stands where in it.
+//! The root of a tree, and look-ups by path.
 ghost use Rattle.std.specs.Prelude.{◌≡◌, Some, IfOk};
 ghost use Rattle.sal_types.specs.Tree.{has};
 ghost use Rattle.sal_node.specs.Shape.{tree_at};
@@ -60,14 +60,14 @@ impl Root {
         Root { node }
     }
 
-    /// The node at the path, if one stands there. It takes no memory.
+    /// The node at the path, if there is one. It takes no memory.
     pub fn get(&self, path: &Path) -> Option<&Arc<Node>>
         ensures { tree_at result ≡ at (Some self.now) path.now }
     {
         reached(Some(&self.node), path.steps())
     }
 
-    /// Whether a row stands at the path or below it. It takes no memory.
+    /// Whether the tree has a row at or below the path. It takes no memory.
     pub fn exists(&self, path: &Path) -> bool
         ensures node { result ≡ present (at (Some self.now) path.now) }
         ensures rows { result ≡ has (rows_of self.now) path.now }

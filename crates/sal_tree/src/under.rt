@@ -1,4 +1,4 @@
-//! Whether rows lie under a path.
+//! Whether rows are under a path.
 ghost use Rattle.std.specs.Prelude.{◌≡◌, ◌↔◌, IsTrue};
 ghost use Rattle.std.specs.List.{list_all};
 ghost use Rattle.sal_types.specs.Prefix.{is_prefix};
@@ -7,7 +7,7 @@ ghost use Rattle.sal_types.specs.Tree.{under};
 use sal_rows::Rows;
 use sal_types::{Path, Row};
 
-/// Whether each row stands at the path or below it, as `Root::put` and `Root::merge` ask. It takes no memory.
+/// Whether each row is at or below the path, as `Root::put` and `Root::merge` require. It takes no memory.
 pub fn lie_under(rows: &Rows, path: &Path) -> bool
     ensures { IsTrue result ↔ (under rows.now path.now ≡ rows.now) }
 {

@@ -16,11 +16,11 @@ use Rattle.sal_schema.specs.Table.{type_of, module_of}
 use Rattle.sal_json.specs.Written.{is_wide, atom_json, layer_for, type_json_of, json_of}
 use Rattle.sal_data.specs.Written.{scalar_json}
 
-one_of : (b : Bool) (x y : Data) → has_float x ≡ false → has_float y ≡ false → has_float (if b then x else y) ≡ false
+pub one_of : (b : Bool) (x y : Data) → has_float x ≡ false → has_float y ≡ false → has_float (if b then x else y) ≡ false
 one_of true x y p q = p
 one_of false x y p q = q
 
-if_some : {A : Type 0} (f : A → Data) (o : Option A) → ((a : A) → has_float (f a) ≡ false) → has_float (option_map_or f o null) ≡ false
+pub if_some : {A : Type 0} (f : A → Data) (o : Option A) → ((a : A) → has_float (f a) ≡ false) → has_float (option_map_or f o null) ≡ false
 if_some f None whole = refl
 if_some f (Some a) whole = whole a
 

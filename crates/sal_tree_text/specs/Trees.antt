@@ -1,4 +1,4 @@
--- The JSON value of a tree by its nodes. That it is what `sal_data` writes for the tree's rows is proved in proofs/TreeRows.
+-- The JSON value of a tree by its nodes. proofs/TreeRows proves that it is what `sal_data` writes for the tree's rows.
 use Rattle.std.specs.Prelude.{ℕ, zero, suc, List, [], ◌∷◌, ◌++◌, Option, Some, None, Bool, true, false, ◌&&◌, fold, if◌then◌else◌}
 use Rattle.std.specs.Option.{option_map_or}
 use Rattle.std.specs.Ordering.{nat_cmp, is_lt}
@@ -21,7 +21,7 @@ first_cell (Some c) kids = Some c
 first_cell None bare = None
 first_cell None (grown x s c kids rest) = first_cell c kids
 
--- what gives the value of a node from its tree
+-- the value of a node from its tree
 abbrev pub Teller : Type 0
 Teller = ℕ → Tree → Data
 
@@ -57,7 +57,7 @@ module _ (table : SchemaTable) where
   entries_values n f [] = []
   entries_values n f (e ∷ es) = entry_value n f e.0 e.1 ++ entries_values n f es
 
-  -- the value of a node, below which the tree is at most so many nodes deep
+  -- the value of a node with at most this many levels of nodes
   unfoldable pub node_value : ℕ → Teller
   node_value zero n tree = null
   node_value (suc levels) n tree =

@@ -12,8 +12,8 @@
 //! | `texts`, `pieces` | names, words and scalars as JSON text |
 //! | `tally` | the count |
 //!
-//! The text is that of the definitions of `sal_script` for the rows of the tree, to the byte. That the value of a tree by its nodes
-//! (`specs/Trees`) is what `sal_data` writes for its rows is proved in `proofs/TreeRows`. No command uses this crate yet.
+//! The text is that of the definitions of `sal_script` for the rows of the tree, to the byte. `proofs/TreeRows` proves that the value of a tree by
+//! its nodes (`specs/Trees`) is what `sal_data` writes for its rows.
 //!
 //! ```
 //! let mut text = String::new(alloc);
@@ -23,9 +23,9 @@
 //! ```
 //!
 //! Cost: linear in the text, with a list of the children of each node that is being written, which takes no memory for a node without
-//! children. A member costs one comparison of names where the names of an object rise as the nodes' numbers do; else its children go into a
-//! map by name, in n log n comparisons for n children, with a copy of each name. Names and words are copied into the text as they are, where
-//! nothing in them is escaped. An entry of a list with two leafs took 3,100 instructions, and 15,000 by its rows, their JSON value and the
+//! children. A member costs one comparison of names if the names of an object ascend as the nodes' numbers do; else its children go into a
+//! map by name, in n log n comparisons for n children, with a copy of each name. Names and words are copied into the text as they are, if
+//! they need no escape. An entry of a list with two leafs took 3,100 instructions, and 15,000 by its rows, their JSON value and the
 //! text of that.
 #![tactic(auto)]
 
@@ -35,5 +35,6 @@ mod tally;
 mod texts;
 mod trees;
 
+pub use pieces::{push_string, push_value};
 pub use tally::{Tally, tally_of};
 pub use trees::push_tree;

@@ -9,8 +9,8 @@ use sal_types::NoMemory;
 use serde_json::Value;
 use std::alloc::Global;
 
-// The JSON text of a value.
-pub(crate) fn push_value(alloc: Global, text: &mut String, value: &Value) -> Result<(), NoMemory>
+/// The JSON text of a value.
+pub fn push_value(alloc: Global, text: &mut String, value: &Value) -> Result<(), NoMemory>
     requires { has_float (view value.now) ≡ false }
     ensures { OnOk result (string_bytes text.new ≡ string_bytes text.old ++ compact_text (view value.now)) }
 {
@@ -19,7 +19,7 @@ pub(crate) fn push_value(alloc: Global, text: &mut String, value: &Value) -> Res
     Ok(())
 }
 
-// The JSON text of a scalar: of a number and of words without a value of their own between.
+// The JSON text of a scalar: a number or a text.
 pub(crate) fn push_json(alloc: Global, text: &mut String, json: &Value) -> Result<(), NoMemory>
     requires { has_float (view json.now) ≡ false }
     ensures { OnOk result (string_bytes text.new ≡ string_bytes text.old ++ compact_text (view json.now)) }
@@ -34,8 +34,8 @@ pub(crate) fn push_json(alloc: Global, text: &mut String, json: &Value) -> Resul
     }
 }
 
-// A JSON text of these words.
-pub(crate) fn push_string(alloc: Global, text: &mut String, words: &str) -> Result<(), NoMemory>
+/// A JSON text of these words.
+pub fn push_string(alloc: Global, text: &mut String, words: &str) -> Result<(), NoMemory>
     ensures { OnOk result (string_bytes text.new ≡ string_bytes text.old ++ quoted words.now) }
 {
     let words = String::from_str(alloc, words)?;

@@ -1,4 +1,4 @@
-//! How many rows a tree has and the sum of its numbers, counted on its nodes.
+//! The number of rows of a tree and the sum of its numbers, counted on its nodes.
 ghost use Rattle.std.specs.Prelude.{◌≡◌, ◌+◌, length, sum_by, IfOk, OnOk};
 ghost use Rattle.sal_script.specs.Load.{number_of};
 ghost use Rattle.sal_script.specs.Load as load;
@@ -13,14 +13,14 @@ use std::alloc::Global;
 // The leaf of an entry that has its number: node 2, which in the schema of a load is the leaf `v`.
 const NUMBER: u32 = 2;
 
-/// How many rows a tree has, and the sum of its unsigned leafs of node 2.
+/// The number of rows of a tree, and the sum of its unsigned leafs of node 2.
 #[derive(Drop)]
 pub struct Tally {
     pub rows: u128,
     pub sum: u128,
 }
 
-/// The tally of a tree. It fails where memory runs out, and where a number of the tally has more than 128 bits.
+/// The tally of a tree. It fails if memory runs out, and if a number of the tally has more than 128 bits.
 pub fn tally_of(alloc: Global, root: &Root) -> Result<Tally, NoMemory>
     ensures rows { IfOk result (λ tally. tally.rows ≡ length (rows_of root.now)) }
     ensures sum { IfOk result (λ tally. tally.sum ≡ sum_by number_of (rows_of root.now)) }
@@ -52,7 +52,7 @@ fn own_row(cell: &Option<Cell>) -> u128
     }
 }
 
-// Adds what is below the node.
+// Adds the tally of the nodes below.
 fn add_below(alloc: Global, tally: &mut Tally, node: &Node) -> Result<(), NoMemory>
     ensures rows { OnOk result (tally.new.rows ≡ tally.old.rows + spec.rows_under node.now.kids) }
     ensures sum { OnOk result (tally.new.sum ≡ tally.old.sum + spec.sum_under node.now.kids) }

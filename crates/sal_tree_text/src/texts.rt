@@ -1,4 +1,4 @@
-//! JSON texts of words, written without a JSON value if nothing in them is escaped. Each function appends to the text.
+//! JSON texts of words, written without a JSON value if no byte is escaped. Each function appends to the text.
 ghost use Rattle.std.specs.Prelude.{◌≡◌, ◌++◌, OnOk, string_bytes};
 ghost use Rattle.std.specs.List.{list_all};
 ghost use Rattle.json.specs.Print.{quoted};
@@ -28,7 +28,7 @@ pub(crate) fn push_words(alloc: Global, text: &mut String, words: &str) -> Resul
     Ok(())
 }
 
-/// Whether nothing in the words is escaped.
+/// Whether no byte of the words is escaped.
 fn are_plain(words: &str) -> bool
     ensures { result ≡ list_all is_plain words.now }
 {

@@ -21,12 +21,12 @@ use sal_tree::Root;
 use sal_types::{Cell, NoMemory, Step, Value};
 use std::alloc::Global;
 
-/// How many nodes a tree is deep at most: a path has at most 32 steps.
+/// The largest number of levels of nodes of a tree: a path has at most 32 steps.
 const MAX_LEVELS: u32 = 32;
 
-/// What trees are written by: a schema.
+/// The input for writing trees: a schema.
 ///
-/// Below, `levels` is how many nodes deep a tree is at most, and `is_later` whether something precedes in the same brackets.
+/// Below, `levels` is the largest number of levels of nodes, and `is_later` says whether an item precedes in the same brackets.
 #[derive(Drop)]
 struct TreeWriter<'a> {
     alloc: Global,

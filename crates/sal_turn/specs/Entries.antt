@@ -1,4 +1,4 @@
--- The entries of one client, and what one turn may add to the entries of all.
+-- The entries of one client, and what one turn may add to all entries.
 use Rattle.std.specs.Prelude.{◌≡◌, ◌⊎◌, ℕ, ◌==◌, List, [], ◌∷◌, ◌++◌}
 use Rattle.std.specs.List.{filter}
 
@@ -11,6 +11,6 @@ module _ {E : Type 0} (client : E → ℕ) where
   abbrev pub AddsAtMostOne : ℕ → List E → List E → Type 0
   AddsAtMostOne k found now = (now ≡ found) ⊎ ((e : E) × (client e ≡ k) × (now ≡ found ++ e ∷ []))
 
-  -- the same, and with the entries the own ones go from `own` to `then`
+  -- the same, and the own entries change from `own` to `then` accordingly
   abbrev pub Leaves : ℕ → List E → List E → List E → List E → Type 0
   Leaves k found own now then = ((now ≡ found) × (then ≡ own)) ⊎ ((e : E) × (client e ≡ k) × (now ≡ found ++ e ∷ []) × (then ≡ own ++ e ∷ []))

@@ -1,4 +1,4 @@
--- The rule of the lock: what holds of its two words, its slot and all seats between any two steps.
+-- The rule of the lock: what holds for its two words, its slot and all seats between any two steps.
 use Rattle.std.specs.Prelude.{◌≡◌, ℕ, ◌+◌, ◌%◌, ◌^◌, ◌<◌, true, List, [], ◌∷◌, length, Option, Some, None}
 use mathlib.Core.Option.{some, none}
 use mathlib.Core.Option as maybe
@@ -14,7 +14,7 @@ use Rattle.sal_turn.specs.declared.view.Stage.{Stage}
 use Rattle.sal_turn.specs.declared.view.Stage.TheVariants.{Spent, Idle, Names, Waits, HasTurn, Compares}
 
 module _ {V E G : Type 0} (entries : V → List E) (client : E → ℕ) (ground : V → G) where
-  -- what holds of each seat that is not spent, where `all` are the numbers given and `boss` is the seat that may split
+  -- for each seat that is not spent, where `all` are the numbers given and `boss` is the seat that may split
   pub record SeatRule (present : List E) (world : G) (all : List ℕ) (boss id : ℕ) (v : View E G) : Type 0 where
     pub saw : IsPrefix v.seen present
     pub grounded : v.ground ≡ Some world
@@ -24,7 +24,7 @@ module _ {V E G : Type 0} (entries : V → List E) (client : E → ℕ) (ground 
     pub may_split : v.splits ≡ true → (id ≡ boss) × (v.given ≡ all)
 
   module _ (served : ℕ) (queue : List ℕ) (present : List E) (home : maybe.Option (Option V)) (id : ℕ) where
-    -- what the rule says of a seat at its stage
+    -- the rule for a seat at its stage
     abbrev pub StageRule : Stage E → Type 0
     StageRule Spent = Unit {0}
     StageRule Idle = Unit {0}
@@ -33,7 +33,7 @@ module _ {V E G : Type 0} (entries : V → List E) (client : E → ℕ) (ground 
     StageRule (HasTurn t found) = (t ≡ served) × (get_elem? queue 0 ≡ some id) × (found ≡ present) × (home ≡ none)
     StageRule (Compares seen) = IsPrefix seen present
 
-  -- the value at home has the present entries and the ground; while it is out, the first seat of the queue has it
+  -- the value in the slot has the present entries and the ground; if the slot is empty, the first seat of the queue has the value
   abbrev pub ValueRule : List E → G → List ℕ → List (View E G) → maybe.Option (Option V) → Type 0
   ValueRule present world queue views (some (Some x)) = (entries x ≡ present) × (ground x ≡ world)
   ValueRule present world queue views (some None) = ⊥
@@ -41,7 +41,7 @@ module _ {V E G : Type 0} (entries : V → List E) (client : E → ℕ) (ground 
 
   -- `present` are the entries, `world` is the ground of the value that the lock was opened with, `served` is the turn served,
   -- `queue` has the seats with a ticket in the order of their tickets, of which the first is `served`, `all` are the numbers given,
-  -- `boss` is the seat that may split, and `home` is the slot. Tickets are counted without end; the words keep them modulo 2 ^ 64
+  -- `boss` is the seat that may split, and `home` is the slot. Tickets are unbounded numbers; the words have them modulo 2 ^ 64
   pub record LockRule (s : State (Option V) (View E G)) : Type 0 where
     pub present : List E
     pub world : G

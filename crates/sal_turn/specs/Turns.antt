@@ -1,5 +1,5 @@
--- What a call does for a caller with a seat: one turn, and in it something on the value that was found. `entries`, `client_of` and `base` are what
--- the value shows of itself: its entries, their clients and its ground. `known` is the value as far as a seat has seen it.
+-- The effect of a call for a caller with a seat: one turn, with some change of the value found. `entries`, `client_of` and `base` are the value's
+-- entries, their clients and its ground. `known` is the value as far as a seat has seen it.
 use Rattle.std.specs.Prelude.{◌≡◌, ℕ, ◌+◌, ◌++◌, List, Some, length, drop}
 use mathlib.Core.List.{IsPrefix}
 use Rattle.sal_turn.specs.Entries.{entries_by}
@@ -7,14 +7,14 @@ use Rattle.sal_turn.specs.Seats.{Place, TableId}
 use Rattle.sal_turn.specs.Views.{SameRights}
 use Rattle.sal_turn.specs.declared.view.View.{View}
 
--- the seat is at the same lock, with the number, the ground and the rights that it had
+-- the seat is at the same lock, and its number, ground and rights are unchanged
 abbrev pub Keeps : {E G : Type 0} → TableId → Place E G → Place E G → Type 0
 Keeps lock old new = (new.lock ≡ lock) × SameRights old.view new.view
 
 module _ {V E G : Type 0} (entries : V → List E) (client_of : E → ℕ) (base : V → G) (known : View E G → V) where
-  -- A turn of a seat that knew v found a value, over the seat's ground: its entries begin with all that the seat had seen, and those of the
-  -- seat's number are the seat's own. The turn left a value, and then the seat knows w: it has seen the entries of that value, and its own
-  -- entries have grown by what was added.
+  -- A turn of a seat that knew v found a value over the seat's ground: the list seen is a prefix of its entries, and the entries of the seat's
+  -- number are the seat's own. The turn left a value, and then the seat knows w: it has seen all entries of that value, and its own entries
+  -- have grown by the one added.
   pub record TurnOf (v : View E G) (client : ℕ) (found left : V) (w : View E G) : Type 0 where
     pub number : client ≡ v.number
     pub over : v.ground ≡ Some (base found)

@@ -29,7 +29,7 @@ impl<V: Chronicle> Model for Held<V> {
 
     ghost view = { λ h. record { lock = h.token.table_id; view = at_stage Idle h.token.me.0; found = entries_found h.token.me.0.stage; value = h.value } };
 
-    // It holds the slot, which is empty meanwhile; its turn has come; the entries of its number are its own.
+    // It has the slot, which is empty during the turn; its turn has come; the entries of its number are its own.
     ghost invariant = { λ h.
         (h.token.me.1 ≡ (0, None) ∷ [])
         × ((t : ℕ) × (h.token.me.0.stage ≡ HasTurn t (entries_found h.token.me.0.stage)))
@@ -52,7 +52,7 @@ impl<V: Chronicle> Held<V> {
         &self.value
     }
 
-    /// The value. What is written through it is written to the value, and nothing else changes.
+    /// The value. A write through the reference changes the value and nothing else.
     pub fn value(&mut self) -> &mut V
         ensures* writes_back { sem 𝓛 (Lends (the_row V.row V.Entry.row V.Ground.row V.Chronicle) V.row self.entry result (λ w. record self.old { value = w })) }
         ensures value { result.now ≡ self.old.value }

@@ -4,12 +4,12 @@ use crate::view::View;
 use atomic_table::TableRule;
 use std::snapshot::Snapshot;
 
-/// What the lock is opened with.
+/// The arguments of `open`.
 #[derive(Drop)]
 pub struct Opening<V> {
     /// The number of the opening seat.
     pub number: u32,
-    /// The value, as it was then.
+    /// The value at that time.
     pub value: Snapshot<V>,
 }
 

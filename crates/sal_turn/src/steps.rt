@@ -1,4 +1,4 @@
-//! What each step of the lock tells the seat that makes it. These types are for the proofs alone.
+//! The atomic steps of the lock, with their effect on the seat that makes them. These types are for the proofs alone.
 use crate::chronicle::Chronicle;
 use crate::view::View;
 use atomic_table::{Join, Play, Split};
@@ -12,7 +12,7 @@ impl<V: Chronicle> Play<Option<V>, View<V::Entry, V::Ground>> for Draw {
     ghost then = { DrawTells V.entries V.client V.ground };
 }
 
-/// The seat looks at the turn served, and takes the value where its turn has come.
+/// The seat looks at the turn served, and takes the value if its turn has come.
 pub(crate) struct Look;
 
 impl<V: Chronicle> Play<Option<V>, View<V::Entry, V::Ground>> for Look {
@@ -21,7 +21,7 @@ impl<V: Chronicle> Play<Option<V>, View<V::Entry, V::Ground>> for Look {
     ghost then = { LookTells V.entries V.client V.ground };
 }
 
-/// The seat ends its turn, and the value lies in the slot again.
+/// The seat ends its turn, and the value is in the slot again.
 pub(crate) struct Pass;
 
 impl<V: Chronicle> Play<Option<V>, View<V::Entry, V::Ground>> for Pass {

@@ -45,7 +45,7 @@ impl<V: Chronicle> Model for Turn<V> {
 }
 
 impl<V: Chronicle> Turn<V> {
-    /// A lock over the value, which has no entries yet, and its opening seat, with this number. For want of memory the value is dropped.
+    /// A lock over the value, which has no entries yet, and its opening seat, with this number. If memory runs out, the value is dropped.
     pub fn open(alloc: Global, value: V, number: u32) -> Result<(Turn<V>, Seat<V>), NoMemory>
     where
         V: Drop,
@@ -70,8 +70,8 @@ impl<V: Chronicle> Turn<V> {
         }
     }
 
-    /// Waits for the seat's turn, and takes it. The entries found begin with all that the seat has seen, and those of its number
-    /// are its own.
+    /// Waits for the seat's turn, and takes it. The list seen is a prefix of the entries found, and the entries of the seat's
+    /// number are its own.
     pub fn enter<R: Wait>(&self, rt: &R, seat: Seat<V>) -> Held<V>
         requires { seat.lock ≡ self.now }
         ensures same { (result.lock ≡ self.now) × (result.view ≡ seat.view) }
@@ -102,7 +102,7 @@ impl<V: Chronicle> Turn<V> {
         unreachable!()
     }
 
-    /// Ends a turn. The value has the ground that it had, and the entries that were found, or these with one more of the
+    /// Ends a turn. The value has the same ground, and the entries that were found, or these with one more of the
     /// seat's number at the end; the seat has then seen all of them.
     pub fn leave(&self, held: Held<V>) -> Seat<V>
         requires lock { held.lock ≡ self.now }
@@ -128,7 +128,7 @@ impl<V: Chronicle> Turn<V> {
         Seat { token, number }
     }
 
-    /// A new seat with a number that no seat has had. It has seen what the giver has, and has no entries of its own.
+    /// A new seat with a number that no seat has had. It has seen the same entries as the giver, and has no own entries.
     pub fn split(&self, seat: &mut Seat<V>, number: u32) -> Seat<V>
         requires lock { seat.old.lock ≡ self.now }
         requires may_split { seat.old.view.splits ≡ true }
@@ -136,7 +136,7 @@ impl<V: Chronicle> Turn<V> {
         ensures giver { (seat.new.lock ≡ self.now) × (seat.new.view ≡ record seat.old.view { given = seat.old.view.given ++ number ∷ [] }) }
         ensures new { (result.lock ≡ self.now) × (result.view ≡ newcomer number seat.old.view) }
     {
-        // Whatever the word is, it stays so: the step is there to put the number into the view.
+        // The word does not change: the step exists to put the number into the view.
         let named = u64::from(number);
         self.table
             .shared

@@ -1,9 +1,9 @@
 //! What a seat knows.
 use std::collections::LinkedList;
 
-/// Where a seat is, between two turns or in one.
+/// The state of a seat, between two turns or in one.
 pub enum Stage<E> {
-    /// Another seat took in what it knew.
+    /// Another seat took its knowledge over.
     Spent,
     /// It is between two turns.
     Idle,
@@ -17,15 +17,15 @@ pub enum Stage<E> {
     Compares(LinkedList<E>),
 }
 
-/// What a seat knows. No value of it is made, so its numbers and lists have no bounds.
+/// What a seat knows. No value of it exists at run time, so its numbers and lists have no bounds.
 pub struct View<E, G> {
-    /// Where it is. A contract never meets any but `Idle`.
+    /// Its state. A contract meets only `Idle`.
     pub stage: Stage<E>,
     /// The number of its client.
     pub number: u64,
-    /// The ground of the value that its lock was opened with; none once it is spent.
+    /// The ground of the value that its lock was opened with; none once the seat is spent.
     pub ground: Option<G>,
-    /// The entries that it has seen: all there were when its last turn ended.
+    /// The entries that it has seen: all that existed when its last turn ended.
     pub seen: LinkedList<E>,
     /// The entries of its number, in order.
     pub own: LinkedList<E>,
@@ -33,7 +33,7 @@ pub struct View<E, G> {
     pub turns: u64,
     /// Whether it may split and close: the opening seat may, and a join that holds it.
     pub splits: bool,
-    /// If it may split, the numbers given: that of the opening seat, and then those that were given away, in order.
+    /// If it may split, the numbers given: that of the opening seat, then those given away, in order.
     pub given: LinkedList<u64>,
     /// The numbers of the seats that it took in, each with their own entries, in order.
     pub joined: LinkedList<(u64, LinkedList<E>)>,

@@ -1,4 +1,4 @@
-//! How a seat waits for its turn, and who wakes it. Why no wake-up is lost stands in the head of the crate.
+//! How a seat waits for its turn, and who wakes it. The head of the crate says why no wake-up is lost.
 use crate::chronicle::Chronicle;
 use crate::turn::{NEXT_TICKET, TURN_SERVED, Turn};
 use crossbeam_utils::Backoff;
@@ -7,10 +7,10 @@ use std::sync::Wait;
 use std::sync::atomic::AtomicBool;
 use std::sync::atomic::Ordering::SeqCst;
 
-// So many times a seat sleeps outside at most. Then it draws its ticket in any case.
+// The most times that a seat sleeps outside. Then it draws its ticket in any case.
 const MOST_SLEEPS: u32 = 64;
 
-// So many looks are made before each sleep, with short loops between them, and then times at which other threads may run.
+// The number of looks before each sleep. Between them the thread spins briefly, later it yields to other threads.
 const LOOKS: u32 = 11;
 
 // Tickets that differ by a multiple of this share a door.
@@ -20,7 +20,7 @@ const DOORS: u64 = 8;
 #[derive(Drop)]
 pub(crate) struct Sleepers {
     outside: EventCount,
-    // Whether a seat outside is called: it was woken, and has neither gone to draw its ticket nor gone to sleep again.
+    // Whether a seat outside is called: it was woken, and neither draws its ticket yet nor sleeps again.
     is_called: AtomicBool,
     doors: [EventCount; 8],
 }
@@ -47,7 +47,7 @@ impl Sleepers {
         &self.doors[(ticket % DOORS) as usize]
     }
 
-    /// Wakes those at the door of the ticket, and calls one of those outside unless one is called. The turn of the ticket has come.
+    /// Wakes those at the door of the ticket, whose turn has come, and calls one seat outside unless one is called.
     pub(crate) fn wake(&self, ticket: u64) {
         self.door(ticket).notify_all();
         if !self.is_called.load(SeqCst) && !self.is_called.swap(true, SeqCst) {
@@ -68,7 +68,7 @@ impl<V: Chronicle> Turn<V> {
         self.table.shared.peek(NEXT_TICKET) == served
     }
 
-    // Whether one of some looks finds the lock free.
+    // Looks several times, and answers whether a look finds the lock free.
     fn is_free_soon(&self) -> bool {
         let backoff = Backoff::new();
         for _ in 0..LOOKS {
@@ -80,7 +80,7 @@ impl<V: Chronicle> Turn<V> {
         false
     }
 
-    // Sleeps until the seat is woken, if a look behind the announcement finds the lock busy.
+    // Sleeps until the seat is woken, if a look after the announcement finds the lock busy.
     fn sleep_outside<R: Wait>(&self, rt: &R) {
         let key = self.sleepers.outside.prepare_wait();
         self.sleepers.end_call();
@@ -104,7 +104,7 @@ impl<V: Chronicle> Turn<V> {
         self.sleepers.end_call();
     }
 
-    // Whether one of some looks finds that the ticket's turn has come.
+    // Looks several times, and answers whether a look finds that the ticket's turn has come.
     fn is_served_soon(&self, ticket: u64) -> bool {
         let backoff = Backoff::new();
         for _ in 0..LOOKS {

@@ -1,4 +1,4 @@
--- What a transaction sees, and what holds of its operations.
+-- The view of a transaction, and the invariant of its operations.
 use Rattle.std.specs.Prelude.{◌≡◌, ◌≢◌, ◌⊎◌, ℕ, ◌+◌, ◌*◌, ◌-◌, ◌<◌, ◌^◌, Bool, true, false, List, [], ◌∷◌, ◌++◌, Option, None, Some, Result, MatchResult}
 use Rattle.sal_types.specs.declared.value.Store.{Store}
 use Rattle.sal_types.specs.declared.value.Store.TheVariants.{Config, Oper}
@@ -22,11 +22,11 @@ use Rattle.sal_rules.specs.declared.fault.TxFault.{TxFault}
 use Rattle.sal_rules.specs.declared.fault.TxFault.TheVariants.{WriteOnly, NotConfig, KeyLeaf, ParentMissing, RootPath, NoMemory}
 use Rattle.sal_rules.specs.Refusals.{refusal}
 
--- the stamp of a transaction that was begun at a place
+-- the stamp of a transaction that began at an index of the log
 abbrev pub stamp_of : ℕ → ℕ
 stamp_of place = 2 * place + 2
 
--- One tree is another one after the operations of a store: by its rows, and by stamps that tell what was touched.
+-- One tree is another one after the operations of a store: by its rows, and by stamps that say what was touched.
 pub record IsAfter (stamp : ℕ) (store : Store) (ops : List Op) (base view : Tree) : Type 0 where
   pub rows : rows_of view ≡ apply_ops (rows_of base) store ops
   pub stamps : Follows (exactly stamp) (touches (rows_of base) store ops) base view
@@ -38,7 +38,7 @@ AreLawful table base earlier (op ∷ ops) =
     (is_read op.act ≡ false → IsForSchema table op × (refusal table (apply_ops (rows_in base op.store) op.store earlier) op ≡ None))
     × AreLawful table base (earlier ++ op ∷ []) ops
 
--- The rows of each operation lie at and below its path.
+-- The rows of each operation are at or below its path.
 abbrev pub LieBelow : List Op → Type 0
 LieBelow [] = Unit {0}
 LieBelow (op ∷ ops) = (under (rows_of_act op.act) op.path ≡ rows_of_act op.act) × LieBelow ops
@@ -49,9 +49,9 @@ pub record IsRight (w : Writing) : Type 0 where
   pub low : w.begun.place < 2 ^ 63 - 1
   pub lawful : AreLawful w.begun.schema.value w.base [] w.changes
 
--- ---- what it sees
+-- ---- the view
 
--- The trees are a base after operations: by rows, and by stamps that tell what was touched.
+-- The trees are a base after operations: by rows, and by stamps that say what was touched.
 pub record IsSeen (stamp : ℕ) (ops : List Op) (base view : Pair) : Type 0 where
   pub config : IsAfter stamp Config ops base.config view.config
   pub oper : IsAfter stamp Oper ops base.oper view.oper
@@ -71,7 +71,7 @@ with_tree pair Oper tree = record { config = pair.config; oper = tree }
 
 -- ---- reads
 
--- whether a transaction of the mode records what it reads
+-- whether a transaction of the mode records its reads
 abbrev pub records_reads : Mode → Bool
 records_reads Ro = false
 records_reads Wo = false
@@ -82,7 +82,7 @@ records_reads Checked = true
 abbrev pub after_read : Store → List Step → Writing → Writing
 after_read s p w = record w { changes = recorded w.mode s p w.changes }
 
--- The transaction after a write to the store was refused: a missing parent is read.
+-- The transaction after a refused write to the store: a missing parent is read.
 abbrev pub after_refusal : TxFault → Store → Writing → Writing
 after_refusal (ParentMissing path) s w = after_read s path w
 after_refusal WriteOnly s w = w
@@ -93,7 +93,7 @@ after_refusal NoMemory s w = w
 
 -- ---- one write
 
--- why a write is refused, over what the transaction sees
+-- why a write is refused, over the transaction's view
 abbrev pub refused : Writing → Op → Option TxFault
 refused w op = refusal w.begun.schema.value (apply_ops (rows_in w.base op.store) op.store w.changes) op
 
@@ -107,7 +107,7 @@ abbrev pub HasOneMore : Writing → Op → Writing → Type 0
 HasOneMore w op v =
     (v.changes ≡ w.changes ++ op ∷ []) × (v.begun ≡ w.begun) × (v.mode ≡ w.mode) × (v.base ≡ w.base) × IsRight v
 
--- A write that is done has added its operation. One that is not was refused for its first cause, or memory ran out.
+-- A write that is done has added its operation. Any other was refused for its first cause, or memory ran out.
 abbrev pub IsOutcome : Writing → Op → Writing → Result (Unit {0}) TxFault → Type 0
 IsOutcome w op v answer =
     MatchResult answer (λ done. (refused w op ≡ None) × HasOneMore w op v)

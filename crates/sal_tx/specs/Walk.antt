@@ -1,4 +1,4 @@
--- A walk down a tree, as the search for a missing parent goes.
+-- A walk down a tree, for the search for a missing parent.
 use Rattle.std.specs.Prelude.{ℕ, ◌+◌, not, ◌&&◌, List, [], ◌∷◌, Option, None, Some, option_map, if◌then◌else◌}
 use Rattle.sal_types.specs.declared.value.Step.{Step}
 use Rattle.sal_node.specs.Tree.{Tree}
@@ -6,7 +6,7 @@ use Rattle.sal_tree.specs.Grow.{kid, present}
 use Rattle.sal_schema.specs.declared.table.SchemaTable.{SchemaTable}
 use Rattle.sal_schema.specs.Fitting.{has_mark, is_root}
 
--- how many of the steps lead to the first entry or presence container that is not there, before the last one
+-- the number of steps to the first entry or presence container that is absent, before the last step
 abbrev pub missing_depth : SchemaTable → Option Tree → List Step → Option ℕ
 missing_depth table tree [] = None
 missing_depth table tree (step ∷ path) =

@@ -69,7 +69,7 @@ fn state_row<'a>(schema: &Schema, rows: &'a [Row]) -> Option<&'a Row>
     rows.iter().find(|row| schema.is_of_state(&row.path))
 }
 
-// How many steps the path of the outermost missing parent has.
+// The length of the path of the outermost missing parent.
 fn missing(schema: &Schema, tree: &Root, op: &Op) -> Option<usize>
     ensures parent { option_map (λ d. take d op.now.path) result ≡ spec.missing_of schema.now (rows_of tree.now) op.now }
     ensures short { IfSome result (λ d. d ≤ length op.now.path) }
@@ -88,7 +88,7 @@ fn missing_parent(schema: &Schema, tree: &Root, path: &Path) -> Option<usize>
     missing_below(schema, Some(tree.node()), path.steps())
 }
 
-// How many of the steps lead to the first entry or presence container at which nothing stands, before the last one.
+// The number of steps to the first entry or presence container that is absent, before the last step.
 fn missing_below(schema: &Schema, node: Option<&Arc<Node>>, steps: &[Step]) -> Option<usize>
     requires { IsSound (tree_at node) }
     ensures depth { result ≡ walk.missing_depth schema.now (tree_at node.entry) steps.now }

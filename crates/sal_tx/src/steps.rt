@@ -1,10 +1,10 @@
-//! The front of a path.
+//! Prefixes of a path.
 ghost use Rattle.std.specs.Prelude.{◌≡◌, ◌<◌, ◌++◌, [], ◌∷◌, IfOk, OnOk, length, take};
 
 use sal_types::{Duplicate, NoMemory, Path, PathFault, Step};
 use std::alloc::Global;
 
-/// The path's first steps, as many as told, or all of them where it has fewer.
+/// The first `depth` steps of the path, or all of them if it has fewer.
 pub fn first_steps(alloc: Global, path: &Path, depth: usize) -> Result<Path, NoMemory>
     ensures { IfOk result (λ front. front ≡ take depth path.now) }
 {
@@ -19,7 +19,7 @@ pub fn first_steps(alloc: Global, path: &Path, depth: usize) -> Result<Path, NoM
     Ok(front)
 }
 
-// One step further down.
+// The path with one more step.
 fn add(path: &mut Path, step: &Step) -> Result<(), NoMemory>
     requires { length path.old < 32 }
     ensures { OnOk result (path.new ≡ path.old ++ step.now ∷ []) }

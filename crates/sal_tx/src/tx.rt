@@ -26,11 +26,11 @@ pub struct ReadTx {
     base: Pair,
 }
 
-/// A transaction that writes: it sees its base under its own writes. A contract sees its parts.
+/// A transaction that writes: it sees its base with its own writes applied. A contract sees its parts.
 #[derive(Drop)]
 pub struct WriteTx {
     parts: Writing,
-    /// Its base after its operations, once that was asked for: by a read, or by a second write.
+    /// Its base with its operations applied, once it was needed: by a read, or by a second write.
     view: Option<Pair>,
 }
 
@@ -57,7 +57,7 @@ pub enum Tx {
     Write(WriteTx),
 }
 
-/// A transaction that was handed in, as the decision takes it.
+/// A submitted transaction, the input of the decision.
 #[derive(Drop)]
 pub struct Submission {
     pub receipt: u64,
@@ -65,7 +65,7 @@ pub struct Submission {
     pub chain: Option<u64>,
     pub base_commit: u64,
     pub base: Pair,
-    /// Its base after its operations, if that was made.
+    /// Its base with its operations applied, if that was made.
     pub view: Option<Pair>,
     /// The stamp of the nodes that its operations make there.
     pub stamp: u64,
@@ -73,7 +73,7 @@ pub struct Submission {
 }
 
 impl Submission {
-    /// Its base after its operations.
+    /// Its base with its operations applied.
     pub fn trees(&self, alloc: Global) -> Result<Pair, NoMemory>
         requires below { spec.LieBelow self.now.changes }
         requires view { IfSome self.now.view (spec.Shows self.now.base self.now.changes) }
@@ -94,7 +94,7 @@ impl ReadTx {
         ReadTx { begun, base }
     }
 
-    /// How it was begun.
+    /// How it began.
     pub fn begun(&self) -> &Begun
         ensures { result.now ≡ self.now.begun }
     {
@@ -115,21 +115,21 @@ impl ReadTx {
         self.begun.base_commit
     }
 
-    /// The pending receipt that it stands on.
+    /// The pending receipt that it follows, if any.
     pub fn on(&self) -> Option<u64>
         ensures { result ≡ self.now.begun.on }
     {
         self.begun.on
     }
 
-    /// The schema of its domain as it was at begin.
+    /// The schema of its domain when it began.
     pub fn schema(&self) -> &Schema
         ensures { result.now ≡ self.now.begun.schema.value }
     {
         &self.begun.schema
     }
 
-    // What it sees of a store: its base, which is also its base under no operations.
+    // The tree that it sees of a store: that of its base, to which it applies no operations.
     fn view_of(&self, store: Store) -> &Root
         ensures tree { result.now ≡ spec.tree_in self.now.base store }
         ensures rows { spec.rows_in self.now.base store ≡ apply_ops (spec.rows_in self.now.base store) store [] }
@@ -140,7 +140,7 @@ impl ReadTx {
         tree
     }
 
-    /// The rows at the path and below it: of its base, which is its base under no operations.
+    /// The rows at and below the path: of its base, to which it applies no operations.
     pub fn read(&self, alloc: Global, store: Store, path: &Path) -> Result<Rows, NoMemory>
         ensures rows { IfOk result (λ rows. rows ≡ under (spec.rows_in self.now.base store) path.now) }
         ensures view { IfOk result (λ rows. rows ≡ under (apply_ops (spec.rows_in self.now.base store) store []) path.now) }
@@ -149,7 +149,7 @@ impl ReadTx {
         Ok(rows)
     }
 
-    /// Whether a row stands at the path or below it. It takes no memory.
+    /// Whether there is a row at or below the path. It takes no memory.
     pub fn exists(&self, store: Store, path: &Path) -> bool
         ensures rows { result ≡ has (spec.rows_in self.now.base store) path.now }
         ensures view { result ≡ has (apply_ops (spec.rows_in self.now.base store) store []) path.now }
@@ -176,7 +176,7 @@ impl WriteTx {
         })
     }
 
-    /// How it was begun.
+    /// How it began.
     pub fn begun(&self) -> &Begun
         ensures { result.now ≡ self.now.begun }
     {
@@ -197,14 +197,14 @@ impl WriteTx {
         self.parts.begun.base_commit
     }
 
-    /// The pending receipt that it stands on.
+    /// The pending receipt that it follows, if any.
     pub fn on(&self) -> Option<u64>
         ensures { result ≡ self.now.begun.on }
     {
         self.parts.begun.on
     }
 
-    /// The schema of its domain as it was at begin.
+    /// The schema of its domain when it began.
     pub fn schema(&self) -> &Schema
         ensures { result.now ≡ self.now.begun.schema.value }
     {
@@ -219,7 +219,7 @@ impl WriteTx {
         self.parts.changes.ops()
     }
 
-    /// The list of its operations, which the log may have too: no copy of it is made.
+    /// The list of its operations, to be shared with the log: no copy of it is made.
     pub fn share_ops(&mut self, alloc: Global) -> Result<Arc<Ops>, NoMemory>
         ensures same { self.new ≡ self.old }
         ensures list { IfOk result (λ list. list.value ≡ self.old.changes) }
@@ -243,7 +243,7 @@ impl WriteTx {
         }
     }
 
-    // Takes out its base after its operations, which is made where it was not.
+    // Takes out its base with its operations applied, which is made if it was not.
     fn take_view(&mut self, alloc: Global) -> Result<Pair, NoMemory>
         ensures same { self.new ≡ self.old }
         ensures view { IfOk result (spec.IsView self.old) }
@@ -257,7 +257,7 @@ impl WriteTx {
         }
     }
 
-    /// The rows at the path and below it, under its own writes. A transaction that only writes refuses. In mode `Checked` the read is
+    /// The rows at and below the path, with its own writes applied. A transaction that only writes refuses. In mode `Checked` the read is
     /// recorded. Its view may be made for the read, which no contract sees. If memory runs out, the transaction stays the same.
     pub fn read(&mut self, alloc: Global, store: Store, path: &Path) -> Result<Rows, TxFault>
         ensures rows { IfOk result (λ rows. rows ≡ under (apply_ops (spec.rows_in self.old.base store) store self.old.changes) path.now) }
@@ -277,7 +277,7 @@ impl WriteTx {
         }
     }
 
-    /// Whether a row stands at the path or below it, under its own writes. A transaction that only writes refuses. As with `read`, in
+    /// Whether there is a row at or below the path, with its own writes applied. A transaction that only writes refuses. As with `read`, in
     /// mode `Checked` this is recorded, and the view may be made.
     pub fn exists(&mut self, alloc: Global, store: Store, path: &Path) -> Result<bool, TxFault>
         ensures found { IfOk result (λ b. b ≡ has (apply_ops (spec.rows_in self.old.base store) store self.old.changes) path.now) }
@@ -294,7 +294,7 @@ impl WriteTx {
         self.recorded(alloc, store, path, found)
     }
 
-    // The answer of a read, which is recorded.
+    // The result of a read, which is recorded.
     fn recorded<A: Drop>(
         &mut self,
         alloc: Global,
@@ -312,7 +312,7 @@ impl WriteTx {
         }
     }
 
-    /// Sets all at and below the path to what the rows say, and to absent where they are silent.
+    /// Replaces all at and below the path by the rows.
     pub fn put(
         &mut self,
         alloc: Global,
@@ -334,7 +334,7 @@ impl WriteTx {
         )
     }
 
-    /// Sets just these rows.
+    /// Sets only these rows.
     pub fn merge(
         &mut self,
         alloc: Global,
@@ -356,7 +356,7 @@ impl WriteTx {
         )
     }
 
-    /// Sets all at and below the path to absent. Where nothing stands, nothing changes but the list of operations.
+    /// Removes all at and below the path. If there is nothing, only the list of operations changes.
     pub fn delete(&mut self, alloc: Global, store: Store, path: Path) -> Result<(), TxFault>
         requires { IsForSchema self.old.begun.schema.value (record { store = store; path = path; act = ClearAll }) }
         ensures outcome { spec.IsOutcome self.old (record { store = store; path = path; act = ClearAll }) self.new result }
@@ -372,7 +372,7 @@ impl WriteTx {
         )
     }
 
-    /// One operation: a put, a merge or a delete. A write that is refused leaves the transaction as it was, but that in mode
+    /// One operation: a put, a merge or a delete. After a refused write the transaction is unchanged, except that in mode
     /// `Checked` a missing parent is recorded as read.
     pub fn write(&mut self, alloc: Global, op: Op) -> Result<(), TxFault>
         requires { IsForSchema self.old.begun.schema.value op }

@@ -28,7 +28,7 @@ pub fn edited(alloc: Global, tree: &Root, op: &Op, stamp: u64) -> Result<Root, N
     }
 }
 
-/// The tree of its store after one operation more, where the view is the base after some.
+/// The tree of its store after one more operation, if the view is the base after some.
 pub(crate) fn next_tree(
     alloc: Global,
     base: &Pair,
@@ -49,7 +49,7 @@ pub(crate) fn next_tree(
     Ok(next)
 }
 
-/// The base after the operations, whose nodes get the stamp.
+/// The base after the operations; touched nodes get the stamp.
 pub(crate) fn viewed(alloc: Global, base: &Pair, ops: &[Op], stamp: u64) -> Result<Pair, NoMemory>
     requires { LieBelow ops.now }
     ensures { IfOk result (IsSeen stamp ops.now base.now) }
@@ -65,7 +65,7 @@ pub(crate) fn viewed(alloc: Global, base: &Pair, ops: &[Op], stamp: u64) -> Resu
     Ok(view)
 }
 
-/// Puts a tree in the place of that of a store.
+/// Replaces the tree of a store.
 pub(crate) fn set_tree(pair: &mut Pair, store: Store, tree: Root)
     ensures { pair.new ≡ with_tree pair.old store tree }
 {

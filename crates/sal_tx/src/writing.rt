@@ -1,4 +1,4 @@
-//! What a transaction that writes has, and one operation more.
+//! The parts of a transaction that writes, and one more operation.
 ghost use Rattle.std.specs.Prelude.{◌≡◌, ◌⊎◌, ◌+◌, ◌*◌, ◌-◌, ◌<◌, ◌^◌, [], None, Some, IfOk, MatchResult, OnOk, OnErr};
 ghost use Rattle.sal_rows.specs.Apply.{apply_ops};
 ghost use Rattle.sal_rows.specs.Reads.{read_of};
@@ -27,7 +27,7 @@ pub struct Writing {
     pub changes: Mod,
 }
 
-// Whether a transaction of the mode records what it reads.
+// Whether a transaction of the mode records its reads.
 fn records_reads(mode: Mode) -> bool
     ensures { result ≡ spec.records_reads mode }
 {
@@ -68,8 +68,8 @@ fn read_of(store: Store, path: &Path) -> Result<Op, NoMemory>
     })
 }
 
-/// The refusal of a write to the store. In mode `Checked` a missing parent is recorded as read; if there is no memory for that, the
-/// refusal is the want of memory.
+/// The refusal of a write to the store. In mode `Checked` a missing parent is recorded as read; if memory runs out for that, the
+/// refusal is `NoMemory`.
 pub(crate) fn refuse(alloc: Global, parts: &mut Writing, store: Store, fault: TxFault) -> TxFault
     ensures parts { parts.new ≡ spec.after_refusal result store parts.old }
     ensures fault { (result ≡ TxFault.NoMemory) ⊎ (result ≡ fault) }
@@ -84,7 +84,7 @@ pub(crate) fn refuse(alloc: Global, parts: &mut Writing, store: Store, fault: Tx
     }
 }
 
-/// The stamp of the nodes that a transaction that began so makes.
+/// The stamp of the nodes that this transaction makes.
 pub(crate) fn stamp_of(begun: &Begun) -> u64
     requires { begun.now.place < 2 ^ 63 - 1 }
     ensures { result ≡ stamp_of begun.now.place }
@@ -92,7 +92,7 @@ pub(crate) fn stamp_of(begun: &Begun) -> u64
     begun.place * 2 + 2
 }
 
-/// The first operation, unless that is refused. No view is wanted for it: it is looked at over the base.
+/// The first operation, unless it is refused. It needs no view: it is checked over the base.
 pub(crate) fn push_first(alloc: Global, parts: &mut Writing, op: Op) -> Result<(), TxFault>
     requires right { IsRight parts.old }
     requires none { parts.old.changes ≡ [] }
@@ -111,7 +111,7 @@ pub(crate) fn push_first(alloc: Global, parts: &mut Writing, op: Op) -> Result<(
     Ok(())
 }
 
-// Refuses a first operation for the first of its causes, if there is one.
+// Refuses a first operation for its first cause, if there is one.
 fn first_checked(alloc: Global, parts: &Writing, op: &Op) -> Result<(), TxFault>
     requires { parts.now.changes ≡ [] }
     ensures { MatchResult result (λ _. spec.refused parts.now op.now ≡ None) (λ e. (e ≡ TxFault.NoMemory) ⊎ (spec.refused parts.now op.now ≡ Some e)) }
@@ -122,7 +122,7 @@ fn first_checked(alloc: Global, parts: &Writing, op: &Op) -> Result<(), TxFault>
     checked(alloc, parts, base, op)
 }
 
-// Refuses an operation for the first of its causes over what the transaction sees, if there is one.
+// Refuses an operation for its first cause over the transaction's view, if there is one.
 fn checked(alloc: Global, parts: &Writing, tree: &Root, op: &Op) -> Result<(), TxFault>
     requires { rows_of tree.now ≡ apply_ops (spec.rows_in parts.now.base op.now.store) op.now.store parts.now.changes }
     ensures { MatchResult result (λ _. spec.refused parts.now op.now ≡ None) (λ e. (e ≡ TxFault.NoMemory) ⊎ (spec.refused parts.now op.now ≡ Some e)) }
@@ -136,7 +136,7 @@ fn schema_of(begun: &Begun) -> &Schema
     &begun.schema
 }
 
-/// One operation more, unless that is refused, with the view after it.
+/// One more operation, unless it is refused, with the view after it.
 pub(crate) fn push(
     alloc: Global,
     parts: &mut Writing,
@@ -164,7 +164,7 @@ pub(crate) fn push(
     }
 }
 
-// The tree of its store after one operation more, unless that is refused.
+// The tree of its store after one more operation, unless it is refused.
 fn written(alloc: Global, parts: &Writing, view: &Pair, op: &Op) -> Result<Root, TxFault>
     requires right { IsRight parts.now }
     requires seen { IsSeen (stamp_of parts.now.begun.place) parts.now.changes parts.now.base view.now }

@@ -1,4 +1,4 @@
-//! What a type statement restricts: a built-in type, or that of the typedef that it names.
+//! The type that a type statement restricts: a built-in type, or that of the typedef that it names.
 ghost use Rattle.std.specs.Prelude.{◌≡◌, [], map, IfOk, Some, None, true};
 ghost use Rattle.sal_restrict.specs.declared.yang_type.YangType.TheViews.{out-YangType};
 ghost use Rattle.sal_typedefs.specs.declared.judgement.Judgement.{Judgement as Kept};
@@ -76,7 +76,7 @@ fn derived_basis(alloc: Global, below: &[Judgement]) -> Result<Basis, NoMemory>
     }
 }
 
-/// What a statement restricts that names this built-in type, or else a typedef.
+/// The type that a statement restricts: this built-in type, or else that of a typedef.
 pub(crate) fn basis_of(
     alloc: Global,
     builtin: Option<Builtin>,

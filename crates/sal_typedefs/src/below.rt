@@ -1,4 +1,4 @@
-//! What a type statement rests on: the type of the typedef that it names, or the members of a union.
+//! The type statements that a type statement depends on: that of the typedef that it names, or the members of a union.
 ghost use Rattle.std.specs.Prelude.{◌≡◌, IfOk, map, option_map, take};
 ghost use Rattle.std.specs.List.{flat_map};
 ghost use Rattle.std.specs.Option.{option_to_list};
@@ -14,7 +14,7 @@ use sal_module::{Keyword, argument_of, first_named, is_named};
 use sal_types::{NoMemory, append};
 use std::alloc::Global;
 
-/// The typedef of a name in a module, seen from a statement.
+/// The typedef of a name in a module, as visible at a statement.
 fn typedef_of<'x, 'a>(
     alloc: Global,
     typedefs: &'x Typedefs<'a>,
@@ -92,7 +92,7 @@ fn type_of<'x, 'a>(
     }
 }
 
-/// The type statements that a type statement rests on.
+/// The type statements that a type statement depends on.
 pub(crate) fn rests_on<'x, 'a>(
     alloc: Global,
     typedefs: &'x Typedefs<'a>,

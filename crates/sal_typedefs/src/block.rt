@@ -18,7 +18,7 @@ use std::marker::Model;
 /// The number of each name.
 pub(crate) type Numbers = BTreeMap<String, usize>;
 
-/// The name has this number, where it has none.
+/// Sets the number of the name, if it has none.
 pub(crate) fn define(map: &mut Numbers, alloc: Global, name: &str, k: usize) -> Result<(), NoMemory>
     ensures { IfOk result (λ _. (q : List ℕ) → get_by_text map.new q ≡ spec.with_first (get_by_text map.old q) (same name.now q) k) }
 {
@@ -37,7 +37,7 @@ fn define_typedef(map: &mut Numbers, alloc: Global, sub: &Stmt, k: usize) -> Res
     Ok(())
 }
 
-/// The place of the first typedef of each name.
+/// The index of the first typedef of each name.
 fn typedefs_in(alloc: Global, subs: &[Stmt]) -> Result<Numbers, NoMemory>
     ensures { IfOk result (λ map. spec.AreTypedefs subs.now map) }
 {
@@ -66,7 +66,7 @@ fn stmt_at(subs: &[Stmt], k: usize) -> Option<&Stmt>
     subs.get(k)
 }
 
-/// A statement whose block is open, with the typedefs of that block by name. It is seen as the statement.
+/// A statement with an index of the typedefs in its block. A contract sees the statement.
 #[derive(Drop)]
 pub struct Block<'a> {
     stmt: &'a Stmt,

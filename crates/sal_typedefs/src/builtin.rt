@@ -35,7 +35,7 @@ pub(crate) enum Builtin {
     Leafref,
 }
 
-/// Each built-in type behind its name, those that are met most first.
+/// Each built-in type after its name, the most frequent first.
 const NAMES: [(&str, Builtin); 18] = [
     ("string", Builtin::Text),
     ("boolean", Builtin::Bool),
@@ -134,7 +134,7 @@ fn range(alloc: Global, low: i128, high: i128) -> Result<Ranges, NoMemory>
     Ok(Ranges::from_items(list))
 }
 
-/// The lowest and the highest number of so many bits.
+/// The lowest and the highest number of this many bits.
 fn bounds(width: Width, signed: bool) -> (i128, i128)
     ensures value { spec.numbers_of (bits_of width) signed ≡ record { low = result.0; high = result.1 } ∷ [] }
     ensures order { result.0 ≤ℤ result.1 }
@@ -171,7 +171,7 @@ impl Width {
     }
 }
 
-// Types with numbers are made apart, each with one value that may find no memory.
+// Types with numbers have functions of their own, each with one value whose allocation can fail.
 
 fn int_type(alloc: Global, width: Width, signed: bool) -> Result<YangType, NoMemory>
     ensures value { IfOk result (λ t. t ≡ spec.type_of (kind.Int width signed)) }

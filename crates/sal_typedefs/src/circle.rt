@@ -1,4 +1,4 @@
-//! Typedefs that rest on themselves.
+//! Typedefs that depend on themselves.
 ghost use Rattle.std.specs.Prelude.{◌≡◌, ◌<◌, ◌||◌, [], false, ⊤, IfOk, MatchOption, find, length, reverse};
 ghost use Rattle.std.specs.List.{list_any};
 ghost use Rattle.std.specs.Option.{option_copied, option_to_list};
@@ -72,7 +72,7 @@ fn is_of<'x, 'a>(
     }
 }
 
-/// Whether the next statement names this typedef of this module. There may be no next one.
+/// Whether the next statement, if any, names this typedef of this module.
 fn next_is_of<'x, 'a>(
     ways: &mut Vec<Way<'x, 'a>>,
     alloc: Global,
@@ -91,7 +91,7 @@ fn next_is_of<'x, 'a>(
     }
 }
 
-/// Whether one of the statements that are left to go to names this typedef of this module.
+/// Whether one of the pending statements names this typedef of this module.
 fn one_is_of<'x, 'a>(
     ways: &mut Vec<Way<'x, 'a>>,
     alloc: Global,
@@ -109,7 +109,7 @@ fn one_is_of<'x, 'a>(
     Ok(false)
 }
 
-/// Whether a type statement, or one that it rests on, names this typedef of its module.
+/// Whether a type statement, or one that it depends on, names this typedef of its module.
 fn reaches<'x, 'a>(
     alloc: Global,
     typedefs: &'x Typedefs<'a>,
@@ -123,7 +123,7 @@ fn reaches<'x, 'a>(
     one_is_of(&mut ways, alloc, typedefs, spot.module, typedef)
 }
 
-/// Whether the typedef around a type statement rests on itself by the name that the statement gives.
+/// Whether the typedef around a type statement depends on itself through the name in the statement.
 pub(crate) fn goes_in_circle<'x, 'a>(
     alloc: Global,
     typedefs: &'x Typedefs<'a>,

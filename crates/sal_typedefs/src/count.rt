@@ -1,4 +1,4 @@
-//! How many statements there are.
+//! The number of statements.
 ghost use Rattle.std.specs.Prelude.{◌≡◌, ◌+◌, IfOk};
 ghost use Rattle.sal_typedefs.specs.Names as spec;
 
@@ -7,10 +7,10 @@ use sal_stmt::Stmt;
 use sal_types::NoMemory;
 use std::alloc::Global;
 
-/// How deep the blocks of a statement may be open in one another.
+/// The largest depth of nested blocks of a statement.
 const MAX_BLOCKS: u32 = 64;
 
-/// Counts the statements in so many levels.
+/// Counts the statements in `levels` levels.
 fn count(tally: &mut Tally, levels: u32, stmt: &Stmt) -> Result<(), NoMemory>
     ensures { IfOk result (λ _. tally.new ≡ tally.old + spec.count levels stmt.now) }
 {
@@ -24,7 +24,7 @@ fn count(tally: &mut Tally, levels: u32, stmt: &Stmt) -> Result<(), NoMemory>
     Ok(())
 }
 
-/// How many statements modules have. It takes a byte of memory for each, and gives it back.
+/// The number of statements of modules. It takes a byte of memory for each while it counts.
 pub(crate) fn steps_of(alloc: Global, stmts: &[Stmt]) -> Result<usize, NoMemory>
     ensures { IfOk result (λ n. n ≡ spec.steps_of stmts.now) }
 {

@@ -14,7 +14,7 @@ use sal_stmt::Stmt;
 use sal_types::{NoMemory, append};
 use std::alloc::Global;
 
-/// The least of this fault and that of a statement, if there is one.
+/// The first of this fault and that of a statement, if it has one.
 pub(crate) fn with_fault(
     best: Option<Found>,
     bad: bool,
@@ -40,7 +40,7 @@ pub(crate) struct Naming {
 }
 
 impl Naming {
-    /// One more name of the statement's own behind those before, with the least fault and the next number.
+    /// Appends a name that the statement defines, with the least fault and the next number.
     fn with_own(
         self,
         best: Option<Found>,
@@ -64,7 +64,7 @@ impl Naming {
         ))
     }
 
-    /// The names that the statement gives, and the least of this fault and theirs.
+    /// The names that the statement defines, and the first of this fault and theirs.
     fn own_entries(
         self,
         best: Option<Found>,
@@ -87,7 +87,7 @@ impl Naming {
         Ok((best, entries))
     }
 
-    /// One more name that is chosen from these behind those before, with the least fault.
+    /// Appends a name that the statement chooses from these, with the least fault.
     fn with_choice(
         self,
         best: Option<Found>,
@@ -109,7 +109,7 @@ impl Naming {
         Ok(with_fault(best, bad, Cause::BadRestriction, self.number, stmt))
     }
 
-    /// The names that the statement chooses from these, and the least of this fault and theirs.
+    /// The names that the statement chooses from these, and the first of this fault and theirs.
     fn chosen_entries(
         self,
         best: Option<Found>,
@@ -130,7 +130,7 @@ impl Naming {
         Ok((best, entries))
     }
 
-    /// The names that the statement has, chosen from these where there are some to choose from, and the least of this fault and
+    /// The names of the statement, chosen from these if it restricts a type with names, and the first of this fault and
     /// theirs.
     pub(crate) fn with_entries(
         self,

@@ -13,8 +13,8 @@ pub(crate) struct Entry {
 /// How names get their numbers.
 #[derive(Clone, Copy, PartialEq, Eq)]
 pub(crate) enum Numbering {
-    /// Those of an enumeration: each a `value` of 32 bits with a sign.
+    /// The names of an enumeration: each has a `value` of 32 bits with a sign.
     Enums,
-    /// Those of bits: each a `position` up to 63.
+    /// The names of bits: each has a `position` up to 63.
     Bits,
 }

@@ -1,4 +1,4 @@
-//! A type statement and all that it rests on, judged without a recursion.
+//! The type of a type statement, after those that it depends on, without recursion.
 ghost use Rattle.std.specs.Prelude.{◌≡◌, ◌<◌, ◌++◌, true, false, List, length, take, drop, map, reverse, None, IfOk};
 ghost use Rattle.sal_module.specs.Faults.{least};
 ghost use Rattle.sal_typedefs.specs.Names.{steps_of};
@@ -22,7 +22,7 @@ use sal_stmt::Stmt;
 use sal_types::{NoMemory, append};
 use std::alloc::Global;
 
-/// So many of those that were judged last, the last one first.
+/// The last `count` results, the last one first.
 fn take_last(
     alloc: Global,
     done: &mut Vec<Judgement>,
@@ -41,7 +41,7 @@ fn take_last(
     Ok(below)
 }
 
-/// All these statements, from the last one to the first. The answer has the first one last.
+/// Evaluates all these statements, from the last one to the first. The result has the first one last.
 fn judge_all(
     alloc: Global,
     look: Look,
@@ -62,7 +62,7 @@ fn judge_all(
     Ok(done)
 }
 
-/// The next statement goes behind these. The answer is whether there is one.
+/// Appends the next statement. The answer is whether there is one.
 fn push_next<'x, 'a>(
     all: &mut Vec<Gone<'x, 'a>>,
     ways: &mut Vec<Way<'x, 'a>>,
@@ -83,7 +83,7 @@ fn push_next<'x, 'a>(
     }
 }
 
-/// All statements that are left to go to.
+/// All pending statements, in order.
 fn all_left<'x, 'a>(
     ways: &mut Vec<Way<'x, 'a>>,
     alloc: Global,
@@ -96,7 +96,7 @@ fn all_left<'x, 'a>(
     Ok(all)
 }
 
-/// A statement before those that it rests on.
+/// A statement, then those that it depends on.
 fn gone<'x, 'a>(
     alloc: Global,
     typedefs: &'x Typedefs<'a>,
@@ -108,8 +108,8 @@ fn gone<'x, 'a>(
     all_left(&mut ways, alloc, typedefs)
 }
 
-/// The least fault in a statement and in those that it rests on, names apart, and its type where there is none. All of them are
-/// judged, from the last one to the first.
+/// The least fault in a statement and in those that it depends on, without faults of names, and its type if there is none.
+/// All of them are evaluated, from the last one to the first.
 fn judge_by_way<'x, 'a>(
     alloc: Global,
     look: Look,
@@ -127,11 +127,11 @@ fn judge_by_way<'x, 'a>(
     }
 }
 
-/// The least fault in a `type` statement and in those that it rests on, names apart, and its type where there is none.
+/// The least fault in a `type` statement and in those that it depends on, without faults of names, and its type if there is none.
 ///
-/// The statement stands in these blocks, from the module inwards. It takes time linear in the statements that it rests on,
-/// with the logarithm of a block's typedefs for each, and where it lists names their number squared. For a statement that names
-/// a built-in type and says nothing more it takes that name alone. Patterns are read, and not built.
+/// `around` are the blocks around the statement, from the module inwards. It takes time linear in the statements that it depends on,
+/// with the logarithm of a block's typedefs for each, and the square of the names that the type lists. For a statement that is
+/// only the name of a built-in type it takes a look-up of that name. Patterns are parsed, and not compiled.
 pub fn judge_at<'x, 'a>(
     alloc: Global,
     typedefs: &'x Typedefs<'a>,
@@ -154,7 +154,7 @@ pub fn judge_at<'x, 'a>(
     }
 }
 
-/// The fault of `judge_at` alone. Patterns are built: one that is too large for `regex` counts as want of memory.
+/// The fault of `judge_at` alone. Patterns are compiled: one that is too large for `regex` counts as memory that ran out.
 pub fn other_fault_at<'x, 'a>(
     alloc: Global,
     typedefs: &'x Typedefs<'a>,

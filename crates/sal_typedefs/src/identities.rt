@@ -12,7 +12,7 @@ use sal_types::{NoMemory, append};
 use std::alloc::Global;
 use std::collections::BTreeMap;
 
-/// A statement that is an identity has the next number, where its name has none, and is counted.
+/// Counts the statement if it is an identity, and gives it the next number if its name has none.
 fn define_identity(
     map: &mut Numbers,
     alloc: Global,
@@ -29,7 +29,7 @@ fn define_identity(
     tally.add()
 }
 
-/// The identities among these statements by name, numbered behind those that were counted, and now counted too.
+/// The identities among these statements by name, with numbers from `tally` on, which counts them.
 fn identities_among(alloc: Global, tally: &mut Tally, subs: &[Stmt]) -> Result<Numbers, NoMemory>
     ensures names { IfOk result (λ map. spec.AreNumbered tally.old subs.now map) }
     ensures next { IfOk result (λ _. tally.new ≡ tally.old + length (spec.identities_among subs.now)) }

@@ -1,4 +1,4 @@
-//! One type statement, after those that it rests on (RFC 7950 sections 7.4 and 9).
+//! The type of one type statement, after those that it depends on (RFC 7950 sections 7.4 and 9).
 ghost use Rattle.std.specs.Prelude.{◌≡◌, ◌≤◌, None, IfOk};
 ghost use Rattle.sal_restrict.specs.declared.yang_type.YangType.TheViews.{out-YangType, roll-YangType};
 ghost use Rattle.sal_module.specs.Faults.{least};
@@ -19,7 +19,7 @@ use sal_stmt::Stmt;
 use sal_types::{Duplicate, NoMemory};
 use std::alloc::Global;
 
-/// A statement that has a fault: its type does not matter.
+/// The result of a statement with a fault: its type is not used.
 pub(crate) fn faulty(alloc: Global, fault: Option<Found>) -> Judgement
     ensures fault { result.fault ≡ fault }
     ensures numbers { HasNumbers (out-YangType result.ty) }
@@ -39,7 +39,7 @@ fn is_decimal(basis: &Basis) -> bool
     basis.itself && matches!(basis.ty, YangType::Dec { .. })
 }
 
-/// A type with the fraction digits that its statement gives.
+/// A type with the fraction digits of its statement.
 fn digits_type(alloc: Global, ty: &YangType, stmt: &Stmt) -> Result<YangType, NoMemory>
     requires { restrictions.digits_of stmt.now ≤ 18 }
     ensures value { IfOk result (λ it. it ≡ roll-YangType (restrictions.with_digits (restrictions.digits_of stmt.now) (out-YangType ty.now))) }
@@ -54,7 +54,7 @@ fn digits_type(alloc: Global, ty: &YangType, stmt: &Stmt) -> Result<YangType, No
     }
 }
 
-/// The type that it restricts, with the fraction digits that the statement gives.
+/// The type that it restricts, with the fraction digits of the statement.
 fn digits_layer(alloc: Global, basis: &Basis, stmt: &Stmt) -> Result<Basis, NoMemory>
     requires { restrictions.digits_of stmt.now ≤ 18 }
     ensures value { IfOk result (λ it. spec.base_seen it ≡ spec.with_layer (spec.base_seen basis.now) (restrictions.digits_of stmt.now)) }
@@ -67,7 +67,7 @@ fn digits_layer(alloc: Global, basis: &Basis, stmt: &Stmt) -> Result<Basis, NoMe
 }
 
 impl<'x, 'a> Restriction<'x, 'a> {
-    /// The type that the statement means, with these names.
+    /// The type of the statement, with these names.
     fn typed(&self, basis: &Basis, entries: &[Entry]) -> Result<YangType, NoMemory>
         requires numbers { HasNumbers (out-YangType basis.now.ty) }
         requires positions { HasPositions (out-YangType basis.now.ty) entries.now }
@@ -83,7 +83,7 @@ impl<'x, 'a> Restriction<'x, 'a> {
         self.named_type(basis, entries)
     }
 
-    /// The statement over a type that has its fraction digits.
+    /// The result for a statement over a type whose fraction digits are set.
     fn judge_layer(&self, best: Option<Found>, basis: &Basis) -> Result<Judgement, NoMemory>
         requires numbers { HasNumbers (out-YangType basis.now.ty) }
         requires positions { HasPositions (out-YangType basis.now.ty) basis.now.entries.items }
@@ -108,7 +108,7 @@ impl<'x, 'a> Restriction<'x, 'a> {
         })
     }
 
-    /// The statement over a decimal64 whose digits it gives.
+    /// The result for a statement over a decimal64 whose digits it states.
     fn judge_digits(&self, best: Option<Found>, basis: &Basis) -> Result<Judgement, NoMemory>
         requires digits { restrictions.digits_of self.now.stmt.now ≤ 18 }
         requires numbers { HasNumbers (out-YangType basis.now.ty) }
@@ -124,7 +124,7 @@ impl<'x, 'a> Restriction<'x, 'a> {
         self.judge_layer(best, &layer)
     }
 
-    /// The statement over the type that it restricts.
+    /// The result for a statement over the type that it restricts.
     pub(crate) fn judge(&self, best: Option<Found>, basis: &Basis) -> Result<Judgement, NoMemory>
         requires numbers { HasNumbers (out-YangType basis.now.ty) }
         requires positions { HasPositions (out-YangType basis.now.ty) basis.now.entries.items }

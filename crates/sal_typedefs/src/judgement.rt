@@ -1,10 +1,10 @@
-//! What a statement was found to be.
+//! The result of evaluating a type statement.
 
 use crate::entry::Entry;
 use sal_module::Found;
 use sal_restrict::YangType;
 
-/// The least fault of a type statement and of those that it rests on, and its type and names where there is none.
+/// The least fault of a type statement and of those that it depends on, and its type and names if there is none.
 #[derive(Drop)]
 pub(crate) struct Judgement {
     pub(crate) fault: Option<Found>,
@@ -12,7 +12,7 @@ pub(crate) struct Judgement {
     pub(crate) entries: Vec<Entry>,
 }
 
-/// What a statement restricts: a type with the numbers of its names, and whether it is the built-in type itself.
+/// The type that a statement restricts, with the numbers of its names, and whether it is the built-in type itself.
 #[derive(Drop)]
 pub(crate) struct Basis {
     pub(crate) ty: YangType,

@@ -27,7 +27,7 @@ pub(crate) fn at(cause: Cause, number: u32, stmt: &Stmt) -> Found
     }
 }
 
-/// The number that these digits write, or 255 where it is greater.
+/// The value of these digits, or 255 if it is greater.
 pub(crate) fn small_number(text: &[u8]) -> u8
     ensures { result ≡ min (decimal text.now) 255 }
 {
@@ -56,7 +56,7 @@ fn with_digits(best: Option<Found>, number: u32, sub: &Stmt) -> Option<Found>
     better(best, at(Cause::BadRestriction, number, sub))
 }
 
-/// The least of this fault and those of fraction digits.
+/// The first of this fault and those of fraction digits.
 pub(crate) fn with_all_digits(best: Option<Found>, number: u32, stmt: &Stmt) -> Option<Found>
     ensures { result ≡ least best (spec.digit_faults number stmt.now) }
 {
@@ -82,7 +82,7 @@ fn with_pattern(
     Ok(better(best, at(Cause::BadPattern, number, sub)))
 }
 
-/// The least of this fault and those of patterns.
+/// The first of this fault and those of patterns.
 pub(crate) fn with_patterns(
     best: Option<Found>,
     alloc: Global,
@@ -99,7 +99,7 @@ pub(crate) fn with_patterns(
     Ok(best)
 }
 
-/// The least of this fault and that of a built-in type whose statement does not say what it has to.
+/// The first of this fault and that of a built-in type whose statement lacks a required substatement.
 pub(crate) fn with_absent(
     best: Option<Found>,
     ty: &YangType,
@@ -134,7 +134,7 @@ fn with_sub(
     Ok(better(best, at(Cause::BadRestriction, number, sub)))
 }
 
-/// The least of this fault and those of what restricts the type, the enums and bits left aside.
+/// The first of this fault and those of the restrictions, except enums and bits.
 pub(crate) fn with_subs(
     best: Option<Found>,
     alloc: Global,

@@ -22,7 +22,7 @@ use sal_stmt::Stmt;
 use sal_types::{Duplicate, NoMemory, Str, append};
 use std::alloc::Global;
 
-/// How the names of a type get their numbers, where it has names.
+/// How the names of a type get their numbers, if it has names.
 fn numbering_of(ty: &YangType) -> Option<Numbering>
     ensures { result ≡ restrictions.numbering_of (out-YangType ty.now) }
 {
@@ -33,7 +33,7 @@ fn numbering_of(ty: &YangType) -> Option<Numbering>
     }
 }
 
-/// Whether a statement has all names of the type that it restricts.
+/// Whether a statement keeps all names of the type that it restricts.
 fn takes_all(n: Numbering, basis: &Basis, stmt: &Stmt) -> bool
     ensures { result ≡ types_spec.takes_all n (spec.base_seen basis.now) stmt.now }
 {
@@ -88,7 +88,7 @@ fn listed_by(
     naming.with_entries(best, choices(basis), stmt)
 }
 
-/// The names of a type that a statement restricts, and the least of this fault and theirs.
+/// The names of a type that a statement restricts, and the first of this fault and theirs.
 pub(crate) fn listed(
     best: Option<Found>,
     alloc: Global,
@@ -130,7 +130,7 @@ fn enum_type(
     })
 }
 
-/// A statement of a module that restricts a type, and the types of the statements that it rests on.
+/// A statement of a module that restricts a type, and the types of the statements that it depends on.
 #[derive(Clone, Copy)]
 pub(crate) struct Restriction<'x, 'a> {
     pub(crate) alloc: Global,
@@ -141,7 +141,7 @@ pub(crate) struct Restriction<'x, 'a> {
 }
 
 impl<'x, 'a> Restriction<'x, 'a> {
-    /// The type that the statement means, where it lists names, or names bases or members.
+    /// The type of the statement, if it lists names, bases or members.
     pub(crate) fn named_type(&self, basis: &Basis, entries: &[Entry]) -> Result<YangType, NoMemory>
         requires named { types_spec.IsPlain (out-YangType basis.now.ty) → ⊥ }
         requires positions { HasPositions (out-YangType basis.now.ty) entries.now }

@@ -17,13 +17,13 @@ use std::alloc::Global;
 /// A `type leafref` statement.
 #[derive(Drop)]
 pub struct Leafref<'a> {
-    /// The number of the module in which it stands: the prefixes in its path are those of this module.
+    /// The index of its module, whose prefixes the path uses.
     pub module: u32,
     /// The statement, which has the path.
     pub stmt: &'a Stmt,
 }
 
-/// The statement goes behind these, if it is a leafref.
+/// Appends the statement, if it is a leafref.
 fn push_leafref<'x, 'a>(all: &mut Vec<Leafref<'a>>, spot: &Spot<'x, 'a>) -> Result<(), NoMemory>
     ensures { IfOk result (λ _. map spec.leafref_seen all.new.items ≡ map spec.leafref_seen all.old.items ++ map spec.stmt_in (filter names.is_leafref (site_of spot.now ∷ []))) }
 {
@@ -39,7 +39,7 @@ fn push_leafref<'x, 'a>(all: &mut Vec<Leafref<'a>>, spot: &Spot<'x, 'a>) -> Resu
     Ok(())
 }
 
-/// What `leafrefs_at` answers, by way of all statements that this one rests on.
+/// `leafrefs_at`, by a search through all statements that this one depends on.
 fn leafrefs_by_way<'x, 'a>(
     alloc: Global,
     typedefs: &'x Typedefs<'a>,
@@ -58,12 +58,12 @@ fn leafrefs_by_way<'x, 'a>(
     Ok(all)
 }
 
-/// The leafrefs among a `type` statement and those that it rests on, in the order in which these are gone to: each statement
-/// before those that it rests on.
+/// The leafrefs among a `type` statement and those that it depends on, each statement before those that it
+/// depends on.
 ///
-/// The statement stands in these blocks, from the module inwards. It takes time linear in the statements that it rests on,
-/// with the logarithm of a block's typedefs for each. A statement that names a built-in type
-/// and says nothing more takes no more than that name.
+/// `around` are the blocks around the statement, from the module inwards. It takes time linear in the statements that it depends
+/// on, with the logarithm of a block's typedefs for each. A statement that is only the name of a built-in type takes a look-up
+/// of that name.
 pub fn leafrefs_at<'x, 'a>(
     alloc: Global,
     typedefs: &'x Typedefs<'a>,

@@ -1,21 +1,21 @@
-//! What a `type` statement means: built-in types, typedefs, and what they restrict (RFC 7950 sections 7.3, 7.4 and 9).
+//! The types of `type` statements: built-in types, typedefs, and their restrictions (RFC 7950 sections 7.3, 7.4 and 9).
 //!
 //! | item | what it is |
 //! |---|---|
-//! | `Typedefs` | modules with their typedefs and identities by name, made once for all look-ups |
-//! | `Block` | a statement whose block is open, with its typedefs by name |
-//! | `name_fault_at` | the first fault of the names in one `type` statement that stands in some blocks |
-//! | `judge_at` | what such a statement means, or the first fault of restrictions and patterns in it and in those that it rests on |
+//! | `Typedefs` | modules with indexes of their typedefs and identities by name, made once for all look-ups |
+//! | `Block` | a statement with an index of the typedefs in its block |
+//! | `name_fault_at` | the first fault of the names in a `type` statement inside given blocks |
+//! | `judge_at` | the type of such a statement, or the first fault of restrictions and patterns in it and in those that it depends on |
 //! | `other_fault_at` | that fault alone |
-//! | `leafrefs_at`, `Leafref` | the leafrefs among such a statement and those that it rests on |
+//! | `leafrefs_at`, `Leafref` | the leafrefs among such a statement and those that it depends on |
 //! | `path_names`, `count_up` | the names in a leafref's path, and how many steps it goes up before them |
-//! | `between_slashes` | what stands between the slashes of a text |
-//! | `is_malformed` | whether the grammar of `regex` reads no pattern from a text |
+//! | `between_slashes` | the parts of a text between its slashes |
+//! | `is_malformed` | whether the grammar of `regex` accepts no pattern in a text |
 //!
-//! `specs/Types.antt` has the meaning of a statement: its type, or the first fault in it and in those that it rests on.
-//! Names are judged first (`specs/Names.antt`), then restrictions and patterns (`specs/Restrictions.antt`), with the
-//! numbers of enumerations and bits in `specs/Entries.antt`. From a statement to those that it rests on the code goes by a list
-//! of ways (`src/walk.rt`), and judges them from the last to the first (`src/evaluate.rt`).
+//! `specs/Types.antt` defines the type of a statement, or the first fault in it and in those that it depends on.
+//! Names are checked first (`specs/Names.antt`), then restrictions and patterns (`specs/Restrictions.antt`), with the
+//! numbers of enumerations and bits in `specs/Entries.antt`. The code lists a statement and those that it depends on
+//! (`src/walk.rt`), and evaluates them from the last to the first (`src/evaluate.rt`).
 //!
 //! ```
 //! // module m { namespace u; prefix p; typedef t { type uint8 { range 1..9; } } leaf a { type t; } }
@@ -29,10 +29,10 @@
 //!
 //! Cost: `is_malformed` compiles the pattern, as `regex` does. `Typedefs::new` and `Block::new` are linear in the statements, with
 //! the logarithm of the names for each, and `path_names` in the text. The calls for a statement are linear in the statements
-//! that the type rests on, each as often as it is rested on, with the logarithm of a block's typedefs for each name; `judge_at`
-//! also takes the square of the names that a statement lists. Where the names have a fault that is exponential at worst: in a
-//! union that names one typedef twice in a circle there is no end but the number of statements. So ask `name_fault_at` for all
-//! types of the modules before any of the others.
+//! that the type depends on, each as often as it is used, with the logarithm of a block's typedefs for each name; `judge_at`
+//! also takes the square of the names that a statement lists. If the names have a fault, these calls may take exponential time:
+//! for a union that names one typedef twice in a cycle, only the number of statements bounds the search. So call
+//! `name_fault_at` for all types of the modules before any of the others.
 #![tactic(auto)]
 
 mod basis;

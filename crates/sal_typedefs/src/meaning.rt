@@ -1,4 +1,4 @@
-//! Types that name things: enumerations, bits, identityrefs and unions (RFC 7950 sections 9.6, 9.7, 9.10 and 9.12).
+//! Types with names: enumerations, bits, identityrefs and unions (RFC 7950 sections 9.6, 9.7, 9.10 and 9.12).
 ghost use Rattle.std.specs.Prelude.{◌≡◌, ◌++◌, ◌∷◌, [], ℕ, ◌<◌, ◌≤◌, All, List, IfOk, map, filter, length, unwrap_or, unsigned_abs, slice_index};
 ghost use Rattle.std.specs.List.{flat_map, enumerate_from, position_from};
 ghost use Rattle.std.specs.Option.{option_to_list};
@@ -50,7 +50,7 @@ pub(crate) fn own_places(alloc: Global, entries: &[Entry]) -> Result<Seq<u32>, N
     Ok(Seq::from_items(places))
 }
 
-/// The first place of a name.
+/// The index of the first entry with this name.
 fn position(names: &[Str], name: &str) -> Option<usize>
     ensures { result ≡ position_from (same name.now) 0 names.now }
 {
@@ -62,7 +62,7 @@ fn position(names: &[Str], name: &str) -> Option<usize>
     None
 }
 
-/// The original place of a name.
+/// The original index of a name.
 fn place_of(names: &[Str], places: &[u32], name: &str) -> u32
     ensures { result ≡ slice_index places.now (unwrap_or (position_from (same name.now) 0 names.now) 0) }
 {
@@ -76,7 +76,7 @@ fn place_of(names: &[Str], places: &[u32], name: &str) -> u32
     }
 }
 
-/// The places of these names in the original enumeration.
+/// The indexes of these names in the original enumeration.
 pub(crate) fn chosen_places(
     alloc: Global,
     names: &[Str],
@@ -153,7 +153,7 @@ pub(crate) fn bases_of(
     Ok(Seq::from_items(bases))
 }
 
-/// A type goes behind others: of a union its members.
+/// Appends a type: of a union its members.
 fn push_members(flat: &mut Vec<YangType>, ty: &YangType, alloc: Global) -> Result<(), NoMemory>
     ensures { IfOk result (λ _. flat.new.items ≡ flat.old.items ++ spec.members_of ty.now (out-YangType ty.now)) }
 {
@@ -167,7 +167,7 @@ fn push_members(flat: &mut Vec<YangType>, ty: &YangType, alloc: Global) -> Resul
     Ok(())
 }
 
-/// The members of a union, and those of unions among them.
+/// The members of a union, with the members of unions in place of these.
 pub(crate) fn flat(alloc: Global, types: &[YangType]) -> Result<Seq<YangType>, NoMemory>
     ensures { IfOk result (λ it. it ≡ flat_map (λ (t : Meant). spec.members_of t (out-YangType t)) types.now) }
 {

@@ -8,7 +8,7 @@ ghost use Rattle.sal_typedefs.specs.Judgements as spec;
 use crate::judgement::Judgement;
 use sal_module::{Found, better};
 
-/// The one of two faults that counts: of equals the first.
+/// The first of two faults: of equals the one given first.
 fn merged(best: Option<Found>, more: Option<Found>) -> Option<Found>
     ensures { result ≡ spec.merged best more }
 {

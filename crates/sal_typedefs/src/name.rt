@@ -6,7 +6,7 @@ ghost use Rattle.sal_typedefs.specs.Scopes as spec;
 use sal_module::Modules;
 use sal_types::{front, tail};
 
-/// How many bytes stand before the first colon, or how many there are where none stands.
+/// The offset of the first colon, or the length of the name if it has none.
 fn len_to_colon(name: &str) -> usize
     ensures value { result ≡ colon_at name.now }
     ensures within { result ≤ length name.now }
@@ -14,7 +14,7 @@ fn len_to_colon(name: &str) -> usize
     name.as_bytes().iter().take_while(|c| **c != b':').count()
 }
 
-/// Where the first colon stands.
+/// The offset of the first colon.
 fn colon_at(name: &str) -> Option<usize>
     ensures { MatchOption result (length name.now ≤ colon_at name.now) (λ i. (i ≡ colon_at name.now) × (i < length name.now) × (slice_index name.now i ≡ 58)) }
 {
@@ -32,7 +32,7 @@ pub(crate) fn local(name: &str) -> &str
     }
 }
 
-/// The module whose names a name stands for in a module: its own, or the one that the prefix names there.
+/// The module that a name in a module refers to: that module, or the one that the prefix names there.
 pub(crate) fn module_of(modules: &Modules, number: u32, name: &str) -> Option<u32>
     ensures { result ≡ spec.module_of modules.now number name.now }
 {

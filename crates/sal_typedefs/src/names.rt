@@ -21,7 +21,7 @@ use sal_stmt::Stmt;
 use sal_types::{NoMemory, Str};
 use std::alloc::Global;
 
-/// The least of this fault and that of a name that no typedef has.
+/// The first of this fault and that of a name that no typedef has.
 fn with_unknown<'x, 'a>(
     best: Option<Found>,
     alloc: Global,
@@ -36,7 +36,7 @@ fn with_unknown<'x, 'a>(
     Ok(with_fault(best, bad, Cause::UnknownName, spot.module, spot.stmt))
 }
 
-/// The least of this fault and that of a name by which the typedef around it rests on itself.
+/// The first of this fault and that of a name through which the typedef around it depends on itself.
 fn with_circle<'x, 'a>(
     best: Option<Found>,
     alloc: Global,
@@ -61,7 +61,7 @@ fn with_base(best: Option<Found>, typedefs: &Typedefs, number: u32, sub: &Stmt) 
     with_fault(best, bad, Cause::UnknownName, number, sub)
 }
 
-/// The least of this fault and those of bases that no identity is.
+/// The first of this fault and those of bases that name no identity.
 fn with_each_base(
     best: Option<Found>,
     typedefs: &Typedefs,
@@ -100,7 +100,7 @@ fn has_unknown(typedefs: &Typedefs, number: u32, names: &[Str]) -> bool
         .any(|name| typedefs.module_of(number, name.as_str()).is_none())
 }
 
-/// The least of this fault and that of an unknown prefix in the path of a leafref.
+/// The first of this fault and that of an unknown prefix in the path of a leafref.
 fn with_path<'x, 'a>(
     best: Option<Found>,
     alloc: Global,
@@ -117,7 +117,7 @@ fn with_path<'x, 'a>(
     Ok(with_fault(best, bad, Cause::UnknownName, spot.module, spot.stmt))
 }
 
-/// The least of this fault and those of the names in one type statement.
+/// The first of this fault and those of the names in one type statement.
 pub(crate) fn with_names<'x, 'a>(
     best: Option<Found>,
     alloc: Global,
@@ -133,13 +133,13 @@ pub(crate) fn with_names<'x, 'a>(
     Ok(best)
 }
 
-/// The least fault of the names in one `type` statement: a typedef, a base or the prefix of a path that is not there
-/// (`UnknownName`), or a typedef that rests on itself by this name (`NameCycle`).
+/// The least fault of the names in one `type` statement: an unknown typedef, base or prefix of a path
+/// (`UnknownName`), or a typedef that depends on itself through this name (`NameCycle`).
 ///
-/// The statement stands in these blocks, from the module inwards. It takes time linear in the statements that the type rests
-/// on, each as often as it is rested on, with the logarithm of a block's typedefs for each. Where that leads into a circle of
-/// other typedefs, it goes around in it for as many steps as there are statements. A statement that names a built-in type and
-/// says nothing more takes no more than that name.
+/// `around` are the blocks around the statement, from the module inwards. It takes time linear in the statements that the type
+/// depends on, each as often as it is used, with the logarithm of a block's typedefs for each. If that leads into a cycle of
+/// other typedefs, the search follows it for as many steps as there are statements. A statement that is only the name of a
+/// built-in type takes a look-up of that name.
 pub fn name_fault_at<'x, 'a>(
     alloc: Global,
     typedefs: &'x Typedefs<'a>,

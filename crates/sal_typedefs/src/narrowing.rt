@@ -12,7 +12,7 @@ use sal_stmt::Stmt;
 use sal_types::{Duplicate, NoMemory, Seq, Str, append};
 use std::alloc::Global;
 
-/// The numbers within these that a text writes, or all of them where it writes none.
+/// The range of a text within these numbers, or all of them if there is no text.
 fn read_or_all(alloc: Global, text: &str, within: &Ranges, digits: u8) -> Result<Ranges, NoMemory>
     requires some { 0 < length within.now }
     requires few { digits ≤ 18 }
@@ -26,7 +26,7 @@ fn read_or_all(alloc: Global, text: &str, within: &Ranges, digits: u8) -> Result
     }
 }
 
-/// The numbers of a type, narrowed where its statement says so.
+/// The numbers of a type, narrowed if its statement has a range or length.
 pub(crate) fn narrowed(
     alloc: Global,
     keyword: Keyword,
@@ -81,7 +81,7 @@ fn copies(alloc: Global, patterns: &[Pattern]) -> Result<Vec<Pattern>, NoMemory>
     Ok(list)
 }
 
-/// The path that a leafref's statement gives, or else that of the type.
+/// The path in a leafref's statement, or that of the type that it restricts.
 fn path_of(alloc: Global, path: &Str, itself: bool, stmt: &Stmt) -> Result<Str, NoMemory>
     ensures { IfOk result (λ it. it ≡ (if itself then value_of word.Path stmt.now else path.now)) }
 {
@@ -92,7 +92,7 @@ fn path_of(alloc: Global, path: &Str, itself: bool, stmt: &Stmt) -> Result<Str, 
     }
 }
 
-/// The lengths and patterns of a text, narrowed where its statement says so.
+/// The lengths and patterns of a text type, narrowed by the statement's restrictions.
 fn text_parts(
     alloc: Global,
     lengths: &Ranges,
@@ -109,9 +109,9 @@ fn text_parts(
     Ok((lengths, patterns))
 }
 
-/// The type that a statement means, where it restricts numbers, a text or bytes, or nothing.
+/// The type of a statement that restricts numbers, a text or bytes, or has no restriction.
 ///
-/// Enumerations, bits, identityrefs and unions say more, and are left as they are.
+/// Enumerations, bits, identityrefs and unions are unchanged here.
 pub(crate) fn restricted(
     alloc: Global,
     ty: &YangType,

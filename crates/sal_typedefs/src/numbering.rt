@@ -14,7 +14,7 @@ use std::alloc::Global;
 
 const CAP: u64 = 4_294_967_296;
 
-/// The number that these digits write, or 2^32 where it is greater.
+/// The value of these digits, or 2^32 if it is greater.
 fn decimal(digits: &[u8]) -> u64
     ensures { result ≡ min 4294967296 (decimal digits.now) }
 {
@@ -37,7 +37,7 @@ fn first(text: &[u8]) -> u8
     if text.is_empty() { 0 } else { text[0] }
 }
 
-/// The number that a text writes, where its digits write one up to 2^32.
+/// The number of a text, if its digits have a value up to 2^32.
 fn integer(text: &[u8]) -> i128
     requires minus { first text.now ≡ 45 → decimal (drop 1 text.now) ≤ 4294967296 }
     requires plus { first text.now ≢ 45 → decimal text.now ≤ 4294967296 }
@@ -72,7 +72,7 @@ impl Numbering {
         }
     }
 
-    /// Whether a text writes a number.
+    /// Whether a text is a number.
     fn has_form(self, text: &str) -> bool
         ensures { result ≡ spec.has_form self text.now }
     {
@@ -92,7 +92,7 @@ impl Numbering {
         }
     }
 
-    /// The text of the number that a statement gives.
+    /// The text of the number in a statement.
     fn text_of(self, stmt: &Stmt) -> Option<&str>
         ensures { spec.text_seen result ≡ spec.text_of self stmt.now }
     {
@@ -102,7 +102,7 @@ impl Numbering {
         }
     }
 
-    /// The number that a text writes, where it has the form.
+    /// The number of a text, if it has the form.
     fn number(self, text: &str) -> Option<i128>
         ensures value { result ≡ spec.stated self (Some text.now) }
         ensures small { IfSome result (λ number. number ≤ℤ spec.bound 0) }
@@ -113,7 +113,7 @@ impl Numbering {
         Some(integer(text.as_bytes()))
     }
 
-    /// The number that a statement gives, or else this one.
+    /// The number of a text, or else `next`.
     fn number_or(self, text: Option<&str>, next: i128) -> i128
         ensures value { result ≡ unwrap_or (spec.stated self (spec.text_seen text.entry)) next }
         ensures small { (k : ℕ) → next ≤ℤ spec.bound k → result ≤ℤ spec.bound k }
@@ -136,7 +136,7 @@ impl Numbering {
         }
     }
 
-    /// Whether a text gives another number than this one.
+    /// Whether the text's number differs from this one.
     fn differs(self, number: i128, text: &str) -> bool
         ensures { result ≡ spec.differs self number (Some text.now) }
     {
@@ -182,7 +182,7 @@ fn named<'e>(name: &str, entries: &'e [Entry]) -> Option<&'e Entry>
     None
 }
 
-/// A name of the statement's own, and whether it is faulty. The number of one that gives none is `next`.
+/// A name that the statement defines, and whether it is faulty. If it states no number, it gets `next`.
 pub(crate) fn own_entry(
     alloc: Global,
     n: Numbering,
@@ -227,7 +227,7 @@ fn entry_or(alloc: Global, found: Option<&Entry>, name: &str) -> Result<Entry, N
     }
 }
 
-/// A name that is chosen from these, and whether it is faulty.
+/// A name chosen from these, and whether it is faulty.
 pub(crate) fn chosen_entry(
     alloc: Global,
     n: Numbering,
@@ -244,7 +244,7 @@ pub(crate) fn chosen_entry(
     Ok((bad, entry_or(alloc, found, name)?))
 }
 
-/// The next number, behind one more name.
+/// The next number after one more name.
 pub(crate) fn next_after(before: &[Entry], next: i128, entry: &Entry) -> i128
     requires next { next ≡ spec.next before.now }
     requires small { next ≤ℤ spec.bound (length before.now) }

@@ -7,7 +7,7 @@ use sal_stmt::is_keyword;
 use sal_types::{NoMemory, Str, append};
 use std::alloc::Global;
 
-/// What follows a predicate, of which this is left.
+/// The text after a predicate whose remaining text is `text`.
 fn behind_predicate(text: &str) -> Option<&str>
     ensures value { MatchOption result (spec.inside text.now ≡ None) (λ behind. spec.inside text.now ≡ option_map (λ rest. 93 ∷ rest) (spec.outside behind.now)) }
     ensures shorter { IfSome result (λ behind. length behind.now < length text.now) }
@@ -18,7 +18,7 @@ fn behind_predicate(text: &str) -> Option<&str>
     }
 }
 
-/// A path without its predicates: of each the closing bracket is left. None where a predicate does not end.
+/// A path without its predicates: only the closing bracket of each remains. None if a predicate does not end.
 fn without_predicates(alloc: Global, path: &str) -> Result<Option<String>, NoMemory>
     ensures { IfOk result (λ kept. option_map string_bytes kept ≡ spec.outside path.now) }
 {
@@ -44,7 +44,7 @@ fn without_predicates(alloc: Global, path: &str) -> Result<Option<String>, NoMem
     }
 }
 
-/// What stands between the slashes of a text. It takes time and memory linear in the text.
+/// The parts of a text between its slashes. It takes time and memory linear in the text.
 pub fn between_slashes(alloc: Global, text: &str) -> Result<Vec<Str>, NoMemory>
     ensures { IfOk result (λ steps. steps.items ≡ slice_split (λ c. c == 47) text.now) }
 {
@@ -64,7 +64,7 @@ pub fn between_slashes(alloc: Global, text: &str) -> Result<Vec<Str>, NoMemory>
     }
 }
 
-/// How many of the first steps lead up.
+/// How many of the first steps go up.
 fn ups(steps: &[Str]) -> usize
     ensures value { result ≡ prefix_len spec.is_up steps.now }
     ensures within { result ≤ length steps.now }
@@ -75,7 +75,7 @@ fn ups(steps: &[Str]) -> usize
         .count()
 }
 
-/// How many of the first steps lead to where the names begin.
+/// How many of the first steps come before the names.
 fn start_of(steps: &[Str]) -> usize
     ensures value { result ≡ spec.start_of steps.now }
     ensures within { result ≤ length steps.now }
@@ -108,7 +108,7 @@ fn are_closed(text: &str) -> bool
     text.as_bytes().iter().all(|c| *c == b']')
 }
 
-/// Whether a step is a name with predicates behind it.
+/// Whether a step is a name with optional predicates.
 fn is_step(step: &str) -> bool
     ensures { result ≡ spec.is_step step.now }
 {
@@ -134,7 +134,7 @@ fn names_in(alloc: Global, steps: &[Str]) -> Result<Vec<Str>, NoMemory>
     Ok(names)
 }
 
-/// The names of a path that has these steps.
+/// The names of a path with these steps.
 fn names_of(alloc: Global, steps: &[Str]) -> Result<Vec<Str>, NoMemory>
     ensures { IfOk result (λ names. names.items ≡ spec.names_of steps.now) }
 {
@@ -146,8 +146,8 @@ fn names_of(alloc: Global, steps: &[Str]) -> Result<Vec<Str>, NoMemory>
     names_in(alloc, down)
 }
 
-/// The names in the path of a leafref, from where it stops going up: predicates are skipped, and a name may have a prefix.
-/// A text that has not the form of a path has none. It takes time and memory linear in the text.
+/// The names in the path of a leafref, after the steps up: predicates are skipped, and a name may have a prefix.
+/// A text that is not of the form of a path has none. It takes time and memory linear in the text.
 pub fn path_names(alloc: Global, text: &str) -> Result<Vec<Str>, NoMemory>
     ensures { IfOk result (λ names. names.items ≡ spec.path_names text.now) }
 {
@@ -160,7 +160,7 @@ pub fn path_names(alloc: Global, text: &str) -> Result<Vec<Str>, NoMemory>
     }
 }
 
-/// How many steps a path goes up before its first name: none where it begins at the top. It takes time linear in the text.
+/// How many steps a path goes up before its first name: 0 if it begins at the top. It takes time linear in the text.
 pub fn count_up(text: &str) -> usize
     ensures { result ≡ spec.count_up text.now }
 {

@@ -8,8 +8,8 @@ use sal_restrict::whole_text;
 use sal_types::NoMemory;
 use std::alloc::Global;
 
-/// Whether the grammar of `regex` reads no pattern from this text, or one that is nested too deeply. That the pattern is too
-/// large for `regex` counts as want of memory.
+/// Whether the grammar of `regex` accepts no pattern in this text, or one that is nested too deeply. A pattern that is too
+/// large for `regex` counts as memory that ran out.
 pub fn is_malformed(alloc: Global, text: &str) -> Result<bool, NoMemory>
     ensures { IfOk result (λ bad. bad ≡ spec.is_malformed text.now) }
 {
@@ -21,7 +21,7 @@ pub fn is_malformed(alloc: Global, text: &str) -> Result<bool, NoMemory>
     }
 }
 
-/// The same by the grammar alone: the pattern is not built, so none is too large.
+/// The same by the grammar alone: the pattern is not compiled, so none is too large.
 fn is_unread(alloc: Global, text: &str) -> Result<bool, NoMemory>
     ensures { IfOk result (λ bad. bad ≡ spec.is_malformed text.now) }
 {
@@ -35,16 +35,16 @@ fn is_unread(alloc: Global, text: &str) -> Result<bool, NoMemory>
     }
 }
 
-/// How a pattern is looked at.
+/// How a pattern is checked.
 #[derive(Clone, Copy)]
 pub(crate) enum Look {
-    /// It is built as `regex` does.
+    /// It is compiled as `regex` does.
     Build,
-    /// It is read alone: it is built elsewhere.
+    /// It is parsed only: it is compiled elsewhere.
     Read,
 }
 
-/// The same, as it is to be looked at.
+/// Whether the pattern is malformed, by this check.
 pub(crate) fn is_refused(alloc: Global, look: Look, text: &str) -> Result<bool, NoMemory>
     ensures { IfOk result (λ bad. bad ≡ spec.is_malformed text.now) }
 {

@@ -1,4 +1,4 @@
-//! Which restrictions may stand on a type (RFC 7950 section 9).
+//! Which restrictions a type may have (RFC 7950 section 9).
 ghost use Rattle.std.specs.Prelude.{◌≡◌, ◌<◌, ◌≤◌, length, option_map, IfOk, IfSome};
 ghost use Rattle.sal_restrict.specs.declared.yang_type.YangType.TheViews.{out-YangType};
 ghost use Rattle.sal_typedefs.specs.Restrictions as spec;
@@ -58,7 +58,7 @@ fn is_leafref(ty: &YangType) -> bool
     matches!(ty, YangType::Leafref { .. })
 }
 
-/// What the statement of a built-in type has to say, and no other may.
+/// The substatement that the statement of a built-in type requires, and no other may have.
 pub(crate) fn needed(ty: &YangType) -> Option<Keyword>
     ensures { result ≡ spec.needed (out-YangType ty.now) }
 {
@@ -73,7 +73,7 @@ pub(crate) fn needed(ty: &YangType) -> Option<Keyword>
     }
 }
 
-/// Whether the statement of the type has to say this, and no other may.
+/// Whether the statement of the type requires this substatement, and no other may have it.
 fn is_needed(ty: &YangType, itself: bool, keyword: Keyword) -> bool
     ensures { result ≡ spec.is_needed (unlisted ty.now itself) keyword }
 {
@@ -108,7 +108,7 @@ fn is_out_of_place(ty: &YangType, itself: bool, stmt: &Stmt) -> bool
         || (is_named(Keyword::Type, stmt) && !is_needed(ty, itself, Keyword::Type))
 }
 
-/// Whether the restriction may not stand on the type.
+/// Whether the type may not have the restriction.
 fn is_misplaced(ty: &YangType, itself: bool, stmt: &Stmt) -> bool
     ensures { result ≡ spec.is_misplaced (unlisted ty.now itself) stmt.now }
 {
@@ -117,7 +117,7 @@ fn is_misplaced(ty: &YangType, itself: bool, stmt: &Stmt) -> bool
         || is_out_of_place(ty, itself, stmt)
 }
 
-/// Whether the text is no range within these numbers.
+/// Whether the text is not a range within these numbers.
 fn is_wider(alloc: Global, within: Option<(&Ranges, u8)>, stmt: &Stmt) -> Result<bool, NoMemory>
     requires { IfSome within (λ n. (0 < length n.0.now) × (n.1 ≤ 18)) }
     ensures { IfOk result (λ wider. wider ≡ spec.is_wider (option_map spec.seen within.entry) stmt.now) }
@@ -132,7 +132,7 @@ fn is_wider(alloc: Global, within: Option<(&Ranges, u8)>, stmt: &Stmt) -> Result
     }
 }
 
-/// Whether a substatement is a fault of the type that it restricts, the enums and bits left aside.
+/// Whether a substatement is a fault for the type that it restricts, except enums and bits.
 pub(crate) fn is_bad(
     alloc: Global,
     ty: &YangType,

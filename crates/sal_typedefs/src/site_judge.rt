@@ -1,4 +1,4 @@
-//! A type statement, judged after those that it rests on.
+//! The result of a type statement, after those that it depends on.
 ghost use Rattle.std.specs.Prelude.{◌≡◌, List, None, map, IfOk};
 ghost use Rattle.sal_restrict.specs.declared.yang_type.YangType.TheViews.{out-YangType};
 ghost use Rattle.sal_module.specs.Faults.{least};
@@ -24,7 +24,7 @@ use sal_module::{Found, argument_of};
 use sal_types::NoMemory;
 use std::alloc::Global;
 
-/// What a statement is that restricts this, where those below are these.
+/// The result of a statement that restricts this type, with these results of the statements below.
 fn judge_over(
     best: Option<Found>,
     alloc: Global,
@@ -52,7 +52,7 @@ fn judge_over(
     restriction.judge(best, basis)
 }
 
-/// What a statement is, where those below are these.
+/// The result of a statement, with these results of the statements below.
 pub(crate) fn judge_one(
     alloc: Global,
     look: Look,

@@ -8,7 +8,7 @@ use sal_stmt::Stmt;
 use sal_types::{NoMemory, append};
 use std::alloc::Global;
 
-/// A statement and the blocks around it, from the outermost inwards: first those of the caller, then those inside.
+/// A statement and the blocks around it, from the outermost inwards: first those of the caller, then the inner ones.
 #[derive(Drop)]
 pub(crate) struct Spot<'x, 'a> {
     pub(crate) module: u32,
@@ -42,7 +42,7 @@ fn closest_outer<'a>(number: u32, blocks: &[Block<'a>], name: &str) -> Option<(u
     None
 }
 
-/// The same, of blocks that have no index.
+/// The same for blocks without an index.
 fn closest_inner<'a>(number: u32, list: &[&'a Stmt], name: &str) -> Option<(usize, &'a Stmt)>
     ensures value { option_map (spec.seen_in number (spec.stmts list.now)) result ≡ scopes.closest number name.now (reverse (spec.stmts list.now)) }
     ensures within { IfSome result (λ found. found.0 ≤ length list.now) }
@@ -128,7 +128,7 @@ impl<'x, 'a> Spot<'x, 'a> {
         }
     }
 
-    /// The same statement once more.
+    /// A copy of the statement with its blocks.
     pub(crate) fn copy(&self, alloc: Global) -> Result<Spot<'x, 'a>, NoMemory>
         ensures { IfOk result (λ spot. spec.site_of spot ≡ spec.site_of self.now) }
     {

@@ -1,12 +1,12 @@
-//! Counts that end where memory does.
+//! Counts that fail when memory runs out.
 ghost use Rattle.std.specs.Prelude.{◌≡◌, ◌+◌, IfOk};
 
 use sal_types::{NoMemory, append};
 use std::alloc::Global;
 use std::marker::Model;
 
-/// How many things were counted, seen as their number. Each takes a byte of memory, so that a count which is past all numbers
-/// was refused memory before.
+/// A count; a contract sees its number. Each item takes a byte of memory, so memory runs out before the count
+/// exceeds every number.
 #[derive(Drop)]
 pub(crate) struct Tally {
     marks: Vec<u8>,

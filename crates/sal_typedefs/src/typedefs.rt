@@ -1,4 +1,4 @@
-//! What look-ups in all modules stand on.
+//! Indexes for look-ups in all modules.
 ghost use Rattle.std.specs.Prelude.{◌≡◌, ◌<◌, ◌^◌, ◌∷◌, [], IfOk, IfSome, option_map};
 ghost use Rattle.std.specs.List.{slice_get};
 ghost use Rattle.sal_stmt.specs.declared.stmt.Stmt.{Stmt as Statement};
@@ -18,8 +18,8 @@ use sal_types::{NoMemory, append};
 use std::alloc::Global;
 use std::marker::Model;
 
-/// Modules with the typedefs at their tops and their identities, by name. They are seen as the list of their statements, of which
-/// there are fewer than 2^32.
+/// Modules with indexes of their top-level typedefs and their identities by name. A contract sees the list of their statements, of
+/// which there are fewer than 2^32.
 #[derive(Drop)]
 pub struct Typedefs<'a> {
     modules: &'a Modules,
@@ -66,7 +66,7 @@ fn number_in(all: &[Numbers], number: u32, name: &str) -> Option<usize>
 }
 
 impl<'a> Typedefs<'a> {
-    /// The look-ups of these modules. It takes time and memory linear in their statements, and the logarithm of a block's
+    /// The indexes of these modules. It takes time and memory linear in their statements, and the logarithm of a block's
     /// typedefs for each.
     pub fn new(alloc: Global, modules: &'a Modules) -> Result<Typedefs<'a>, NoMemory>
         requires { steps_of modules.now < 2 ^ 32 }
@@ -98,7 +98,7 @@ impl<'a> Typedefs<'a> {
         let _ = &self.modules;
     }
 
-    /// The module whose names a name stands for in a module.
+    /// The module that a name in a module refers to.
     pub(crate) fn module_of(&self, number: u32, name: &str) -> Option<u32>
         ensures { result ≡ spec.module_of self.now number name.now }
     {
@@ -125,7 +125,7 @@ impl<'a> Typedefs<'a> {
         }
     }
 
-    /// The number of the identity that a name stands for in a module.
+    /// The number of the identity that a name in a module refers to.
     pub fn identity_of(&self, number: u32, name: &str) -> Option<usize>
         ensures value { result ≡ spec.identity_of self.now number name.now }
         ensures small { IfSome result (λ k. k < 2 ^ 32) }

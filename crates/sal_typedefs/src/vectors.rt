@@ -8,7 +8,7 @@ ghost use Rattle.sal_typedefs.specs.Patterns.{is_malformed};
 
 use sal_module::Cause;
 
-/// Faults, as the definitions give them. A call does nothing: its clauses are the laws.
+/// Faults by the definitions. A call does nothing: its clauses are the laws.
 pub fn faults()
     ensures unknown { example.name_fault (example.with_leaf [] "nope" []) 32 ≡ example.unknown 32 }
     ensures prefix { example.name_fault (example.with_leaf [] "p:string" []) 32 ≡ example.unknown 32 }
@@ -21,7 +21,7 @@ pub fn faults()
     ensures path { example.name_fault (example.with_leaf [] "leafref" (plain "path" 34 "/q:a[b]/c" [] ∷ [])) 32 ≡ example.unknown 32 }
 {}
 
-/// Types, and what is a pattern, as the definitions give them. A call does nothing: its clauses are the laws.
+/// Types and patterns by the definitions. A call does nothing: its clauses are the laws.
 pub fn meanings()
     ensures narrowed { example.leaf_meaning (example.port ∷ []) "port" (plain "range" 34 "max" [] ∷ []) ≡ Some (roll-YangType (YangType-F.Int 16 false (example.upto 4096 4096 ∷ []))) }
     ensures enumeration { example.leaf_meaning [] "enumeration" (example.enum 34 "x" ∷ example.enum 36 "y" ∷ []) ≡ Some (roll-YangType (YangType-F.Enum (codes "x" ∷ codes "y" ∷ []) (0 ∷ 1 ∷ []))) }

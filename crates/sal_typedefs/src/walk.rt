@@ -1,4 +1,4 @@
-//! From a type statement to those that it rests on, and on from those, without a recursion.
+//! From a type statement to those that it depends on, in order, without recursion.
 ghost use Rattle.std.specs.Prelude.{◌≡◌, ◌++◌, ◌∷◌, [], List, IfOk, MatchOption, map};
 ghost use Rattle.std.specs.List.{flat_map};
 ghost use Rattle.sal_stmt.specs.declared.stmt.Stmt.{Stmt as Statement};
@@ -12,21 +12,21 @@ use crate::typedefs::Typedefs;
 use sal_types::{NoMemory, append};
 use std::alloc::Global;
 
-/// A statement that is left to go to, and how many steps may follow.
+/// A pending statement, and how many steps may follow.
 #[derive(Drop)]
 pub(crate) struct Way<'x, 'a> {
     pub(crate) spot: Spot<'x, 'a>,
     pub(crate) steps: usize,
 }
 
-/// A statement that was gone to, and how many it rests on.
+/// A visited statement, and how many statements it depends on directly.
 #[derive(Drop)]
 pub(crate) struct Gone<'x, 'a> {
     pub(crate) spot: Spot<'x, 'a>,
     pub(crate) below: usize,
 }
 
-/// All these statements are gone to next, the first of them first.
+/// Visits all these statements next, the first of them first.
 fn push_all<'x, 'a>(
     ways: &mut Vec<Way<'x, 'a>>,
     spots: Vec<Spot<'x, 'a>>,
@@ -44,7 +44,7 @@ fn push_all<'x, 'a>(
     Ok(())
 }
 
-/// Goes to the next statement.
+/// Visits the next statement.
 pub(crate) fn next<'x, 'a>(
     ways: &mut Vec<Way<'x, 'a>>,
     alloc: Global,

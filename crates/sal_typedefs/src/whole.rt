@@ -1,4 +1,4 @@
-//! Type statements that say all by their name: a built-in type, with nothing in their block.
+//! Type statements that are only the name of a built-in type, with an empty block.
 ghost use Rattle.std.specs.Prelude.{◌≡◌, true, IfSome};
 ghost use Rattle.sal_typedefs.specs.Whole as spec;
 
@@ -6,7 +6,7 @@ use crate::builtin::{Builtin, builtin_of};
 use sal_module::argument_of;
 use sal_stmt::Stmt;
 
-/// The built-in type that a statement names, where nothing stands in its block.
+/// The built-in type that a statement with an empty block names.
 pub(crate) fn lone_builtin(stmt: &Stmt) -> Option<Builtin>
     ensures { IfSome result (λ builtin. spec.Names stmt.now builtin) }
 {
@@ -33,7 +33,7 @@ fn is_whole(builtin: Builtin) -> bool
     }
 }
 
-/// The same, where the statement of the type has to say nothing.
+/// The same, if the built-in type requires no substatement.
 pub(crate) fn whole_builtin(stmt: &Stmt) -> Option<Builtin>
     ensures names { IfSome result (λ builtin. spec.Names stmt.now builtin) }
     ensures is { IfSome result (λ builtin. spec.is_whole builtin ≡ true) }

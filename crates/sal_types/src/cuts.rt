@@ -1,7 +1,7 @@
-//! Texts that are cut at an ASCII byte.
+//! Cuts of a text at an ASCII byte.
 ghost use Rattle.std.specs.Prelude.{◌≡◌, ◌+◌, ◌-◌, ◌<◌, ◌≤◌, length, take, drop, slice_index};
 
-/// What stands before an ASCII byte.
+/// The bytes before the ASCII byte at `i`.
 #[inline]
 pub fn front(text: &str, i: usize) -> &str
     requires there { i < length text.now }
@@ -11,7 +11,7 @@ pub fn front(text: &str, i: usize) -> &str
     &text[..i]
 }
 
-/// What follows the first `n` bytes, of which the last is ASCII.
+/// The text after its first `n` bytes, the last of which is ASCII.
 #[inline]
 pub fn tail(text: &str, n: usize) -> &str
     requires some { 0 < n }

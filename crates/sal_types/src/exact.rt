@@ -1,4 +1,4 @@
-//! Orders that tell different values apart.
+//! Orders in which only equal values compare as `Equal`.
 ghost use Rattle.std.specs.Prelude.{◌≡◌, ◌↔◌, IsTrue};
 ghost use Rattle.std.specs.FinMap.{IsAntisymmetric, nat_cmp-IsAntisymmetric, slice_cmp-IsAntisymmetric};
 ghost use Rattle.sal_types.specs.Order.{atom_cmp-IsAntisymmetric, value_cmp-IsAntisymmetric, step_cmp-IsAntisymmetric, cell_cmp-IsAntisymmetric, path_cmp-IsAntisymmetric};

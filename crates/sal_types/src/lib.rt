@@ -1,21 +1,21 @@
-//! The plain values of the data broker: what a tree's rows are made of, with their orders.
+//! The plain values of the data broker: the parts of a tree's rows, with their orders.
 //!
 //! | type | what it is |
 //! |---|---|
 //! | `Store` | which of a domain's two trees: configuration or operational |
-//! | `Atom`, `Value` | what a leaf holds; a value also tells its member of a union |
+//! | `Atom`, `Value` | the value of a leaf; the same with the index of its member type in a union |
 //! | `Step`, `Path` | one step of a path; a path, of at most 32 steps |
-//! | `Cell`, `Row` | what stands at a path: a mark or a leaf's value; a cell at its path |
-//! | `Seq`, `Str`, `Bytes`, `Keys` | a list, a text, bytes and key values, as larger types hold them |
-//! | `append`, `push_word` | one item more in a list, one word more in a text |
-//! | `all_digits`, `characters`, `has_byte` | small words on texts |
+//! | `Cell`, `Row` | the content of a path: a mark or a leaf's value; a cell at its path |
+//! | `Seq`, `Str`, `Bytes`, `Keys` | a list, a text, bytes and key values, as fields of larger types |
+//! | `append`, `push_word` | append an item to a list, a text to a text |
+//! | `all_digits`, `characters`, `has_byte` | small functions on texts |
 //! | `Counts` | a count for each client, 0 at first |
-//! | `front`, `tail` | what stands before an ASCII byte of a text, and behind one |
-//! | `NoMemory`, `Duplicate` | want of memory; a value of which a second one can be made |
+//! | `front`, `tail` | the part of a text before an ASCII byte, and the part after one |
+//! | `NoMemory`, `Duplicate` | memory ran out; a value that can be copied |
 //! | `Exact` | an order in which `Equal` means the same value |
 //!
-//! A contract sees `Seq`, `Str` and `Path` as lists. `specs/` has the orders, the prefixes of a path, what a tree
-//! is, and the words of readers.
+//! A contract sees `Seq`, `Str` and `Path` as lists. `specs/` defines the orders, the prefixes of a path, what a tree
+//! is, and how readers chain their steps.
 //!
 //! ```
 //! let mut path = Path::root(alloc);

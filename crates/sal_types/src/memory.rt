@@ -1,4 +1,4 @@
-//! Want of memory, and copies that may meet it.
+//! The error for memory that ran out, and copies that can fail with it.
 ghost use Rattle.std.specs.Prelude.{◌≡◌, IfOk};
 
 use std::alloc::{AllocError, AllocFailed};
@@ -21,9 +21,9 @@ impl<T: Drop> From<AllocFailed<T>> for NoMemory {
     }
 }
 
-/// A value of which a second one can be made.
+/// A value that can be copied.
 pub trait Duplicate: Drop {
-    /// A second one, equal to this.
+    /// An equal copy.
     fn copy(&self) -> Result<Self, NoMemory>
         ensures { IfOk result (λ it. it ≡ self.now) };
 }

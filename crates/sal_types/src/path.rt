@@ -12,7 +12,7 @@ use std::cmp::Ordering;
 use std::marker::Model;
 use thiserror::Error;
 
-/// How many steps a path has at most.
+/// The largest number of steps of a path.
 pub const MAX_STEPS: usize = 32;
 
 /// Why a step was not added.
@@ -61,7 +61,7 @@ impl Path {
         &self.list
     }
 
-    /// Goes one step down. A refused step leaves the path as it was.
+    /// Appends a step. After an error the path is unchanged.
     pub fn push(&mut self, step: Step) -> Result<(), PathFault>
         ensures ok { OnOk result (self.new ≡ self.old ++ step ∷ []) }
         ensures too_deep { IsErrOf result PathFault.TooDeep ↔ (length self.old ≡ 32) }
@@ -76,7 +76,7 @@ impl Path {
         }
     }
 
-    /// Whether the other path is this one or goes on below it. It takes no memory.
+    /// Whether this path is a prefix of the other, or equal to it. It takes no memory.
     pub fn is_prefix_of(&self, other: &Path) -> bool
         ensures test { result ≡ is_prefix self.now other.now }
         ensures meaning { IsTrue result ↔ IsPrefix self.now other.now }

@@ -7,7 +7,7 @@ use std::alloc::Global;
 use std::cmp::Ordering;
 use std::marker::Model;
 
-/// A list of values, as a field of a larger type holds it.
+/// A list of values, for a field of a larger type.
 #[derive(Debug, Drop)]
 pub struct Seq<T> {
     vec: Vec<T>,
@@ -38,7 +38,7 @@ impl<T> Seq<T> {
         Seq { vec: list }
     }
 
-    /// The items, given back. It takes no memory.
+    /// The items as a `Vec`. It takes no memory.
     pub fn into_items(self) -> Vec<T>
         ensures { result.items ≡ self }
     {

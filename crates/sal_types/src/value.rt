@@ -1,4 +1,4 @@
-//! Stores, values and cells: what stands in a tree (RFC 7950 sections 7.6 to 7.8 and 9).
+//! Stores, values and cells: the content of a tree (RFC 7950 sections 7.6 to 7.8 and 9).
 use crate::memory::{Duplicate, NoMemory};
 use crate::seq::Seq;
 use crate::text::Str;
@@ -13,9 +13,9 @@ pub enum Store {
     Oper,
 }
 
-/// What a leaf holds, without the place of its type in a union.
+/// The value of a leaf, without the index of its member type in a union.
 ///
-/// `Dec` is `units` times 10 to the power of minus `digits`. `Enum` is the place of the name in the original
+/// `Dec` is `units` times 10 to the power of minus `digits`. `Enum` is the index of the name in the original
 /// enumeration, `Bits` has bit `position` set, and `Ident` is the number of an identity.
 #[derive(Debug, Drop, PartialEq, Eq, PartialOrd, Ord)]
 pub enum Atom {
@@ -31,7 +31,7 @@ pub enum Atom {
     Empty,
 }
 
-/// A leaf's value. `member` is the place of its type in a union, and 0 otherwise.
+/// A leaf's value. `member` is the index of its type in a union, and 0 otherwise.
 #[derive(Debug, Drop, PartialEq, Eq, PartialOrd, Ord)]
 pub struct Value {
     pub member: u64,
@@ -49,7 +49,7 @@ pub enum Step {
     Item(Value),
 }
 
-/// What a row holds: the mark of a presence container, list entry or leaf-list entry, or a leaf's value.
+/// The content of a row: the mark of a presence container, list entry or leaf-list entry, or a leaf's value.
 #[derive(Debug, Drop, PartialEq, Eq, PartialOrd, Ord)]
 pub enum Cell {
     Mark,

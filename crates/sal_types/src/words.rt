@@ -1,4 +1,4 @@
-//! Small words on texts.
+//! Small functions on texts.
 ghost use Rattle.std.specs.Prelude.{◌≡◌, ◌++◌, ◌==◌, OnOk, length, string_bytes};
 ghost use Rattle.std.specs.List.{list_all, list_any};
 ghost use Rattle.std.specs.Char.{is_ascii_digit};
@@ -6,7 +6,7 @@ ghost use Rattle.std.specs.Str.{chars};
 
 use crate::memory::NoMemory;
 
-/// Appends a word to the text. It fails only where memory runs out.
+/// Appends the word to the text. It fails only if memory runs out.
 pub fn push_word(text: &mut String, word: &str) -> Result<(), NoMemory>
     ensures { OnOk result (string_bytes text.new ≡ string_bytes text.old ++ word.now) }
 {
@@ -14,7 +14,7 @@ pub fn push_word(text: &mut String, word: &str) -> Result<(), NoMemory>
     Ok(())
 }
 
-/// Whether the byte stands in the text.
+/// Whether the text contains the byte.
 pub fn has_byte(byte: u8, text: &[u8]) -> bool
     ensures { result ≡ list_any (λ c. c == byte) text.now }
 {

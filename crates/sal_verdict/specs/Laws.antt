@@ -9,7 +9,7 @@ use Rattle.sal_verdict.specs.declared.verdict.Verdict.{Verdict}
 use Rattle.sal_verdict.specs.declared.verdict.Verdict.TheVariants.{Yes}
 use Rattle.sal_verdict.specs.Verdicts.{Judged, verdict}
 
--- a verdict is given just where it is the one that is meant
+-- a verdict is given exactly if it is the right one
 abbrev pub VerdictsAreJudged : Type 0
 VerdictsAreJudged = (world : List Domain) (clients : List (List Move)) (text : List ℕ) (it : Verdict) → length clients < 2 ^ 32 → (Judged world clients text it ↔ (it ≡ verdict world clients text))
 
@@ -22,7 +22,7 @@ VerdictsAreOne =
 abbrev pub RunsAreYes : Type 0
 RunsAreYes = (world : List Domain) (clients : List (List Move)) (text : List ℕ) → length clients < 2 ^ 32 → IsReportInSomeOrder world clients text → verdict world clients text ≡ Yes
 
--- the report of what was played, as `sim` writes it
+-- the report of a play, as `sim` writes it
 abbrev pub PlaysAreYes : Type 0
 PlaysAreYes =
     (world : List Domain) (clients : List (List Move)) (order : List ℕ) (played : Played) → length clients < 2 ^ 32 → play world clients order ≡ Ok played → verdict world clients (report world played) ≡ Yes

@@ -1,4 +1,4 @@
--- What an audit says of a text that is said to be the report of a script.
+-- The audit of a text that may be the report of a script.
 use Rattle.std.specs.Prelude.{◌≡◌, ◌⊎◌, ℕ, ◌^◌, ◌<◌, All, List, [], ◌∷◌, ◌++◌, Option, None, Some, Result, Ok, Err, codes, decimal}
 use Rattle.sal_history.specs.World.{Domain}
 use Rattle.sal_script.specs.Moves.{Move}
@@ -20,11 +20,11 @@ by_difference (Some line) = No line
 abbrev pub by_report : List ℕ → List ℕ → Verdict
 by_report text own = by_difference (difference 0 text own)
 
--- by what was played in that order
+-- by the play in that order
 abbrev pub by_played : List Domain → List ℕ → Played → Verdict
 by_played world text played = by_report text (report world played)
 
--- an order that fails is none of the script
+-- an order that fails is not one of the script
 abbrev pub by_play : List Domain → List ℕ → Result Played ℕ → Verdict
 by_play world text (Ok played) = by_played world text played
 by_play world text (Err index) = No 0
@@ -33,7 +33,7 @@ abbrev pub by_order : List Domain → List (List Move) → List ℕ → Option (
 by_order world clients text None = No 0
 by_order world clients text (Some order) = by_play world text (play world clients order)
 
--- The verdict on a text: by the order that its first line states. The law `VerdictsAreJudged` says what it means.
+-- The verdict on a text: by the order on its first line. The law `VerdictsAreJudged` states its meaning.
 abbrev pub verdict : List Domain → List (List Move) → List ℕ → Verdict
 verdict world clients text = by_order world clients text (told_order text)
 
@@ -42,10 +42,10 @@ abbrev pub line_of : Verdict → List ℕ
 line_of Yes = codes "yes\n"
 line_of (No line) = codes "no " ++ (decimal line ++ 10 ∷ [])
 
--- ---- what it means
+-- ---- the meaning
 
--- The text's first line states this order, `order` and for each call a space and its client's number below 2^32 without leading zeros, and the order is
--- one of the script's.
+-- The text's first line states this order, `order` and for each call a space and its client's number below 2^32 without leading zeros, and the
+-- order is one of the script's.
 pub record IsOrder (world : List Domain) (clients : List (List Move)) (text : List ℕ) (order : List ℕ) : Type 0 where
   pub below : All (λ n. n < 2 ^ 32) order
   pub told : Tells text order
@@ -55,7 +55,7 @@ pub record IsOrder (world : List Domain) (clients : List (List Move)) (text : Li
 abbrev pub TellsNone : List Domain → List (List Move) → List ℕ → Type 0
 TellsNone world clients text = (order : List ℕ) → IsOrder world clients text order → ⊥
 
--- It states one, and the longest front that the text and the report of that order have in common ends this many lines, but is not the whole of both.
+-- It states one, and the longest common prefix of the text and the report of that order has this many whole lines, but is not the whole of both.
 pub record Differs (world : List Domain) (clients : List (List Move)) (text : List ℕ) (line : ℕ) : Type 0 where
   pub order : List ℕ
   pub is : IsOrder world clients text order

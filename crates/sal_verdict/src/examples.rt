@@ -1,10 +1,10 @@
-//! Worked examples of the verdict. Each function does nothing; its contract says what the definitions give for some texts, and the proof
+//! Worked examples of the verdict. Each function does nothing; its contract states what the definitions give for some texts, and the proof
 //! computes it.
 ghost use Rattle.std.specs.Prelude.{◌≡◌, codes};
 ghost use Rattle.sal_verdict.specs.declared.verdict.Verdict.TheVariants.{No, Yes};
 ghost use Rattle.sal_verdict.specs.Verdicts.{by_report, line_of};
 
-/// A text gets no on the line after those that it has whole in common with the report.
+/// The line of a `no` is the one after those that the text has in common with the report.
 pub fn reports_differ()
     ensures same { by_report (codes "order\ntree 0 0 {} {}\n") (codes "order\ntree 0 0 {} {}\n") ≡ Yes }
     ensures tree { by_report (codes "order\ntree 0 1 {} {}\n") (codes "order\ntree 0 0 {} {}\n") ≡ No 1 }

@@ -4,9 +4,9 @@ ghost use Rattle.sal_verdict.specs.Laws.{PlaysAreYes, RunsAreYes, VerdictsAreJud
 use sal_order::laws as texts;
 use sal_script::laws as scripts;
 
-/// The verdict is what is said of a text in plain words. It is yes just where the text is the report of the script for a legal order that its first
-/// line states. It is no with 0 if the first line states no legal order, and else with the number of LF that the text and that report have in
-/// common at their front. There are fewer clients than 2^32: a script has at most 16.
+/// The meaning of the verdict. It is yes exactly if the text is the report of the script for a legal order that its first
+/// line states. It is no with 0 if the first line states no legal order, and otherwise with the number of LFs in the common prefix of the text
+/// and that report. There are fewer clients than 2^32: a script has at most 16.
 pub fn verdicts_are_judged()
     ensures { VerdictsAreJudged }
 {
@@ -22,7 +22,7 @@ pub fn verdicts_are_one()
     verdicts_are_judged();
 }
 
-/// What `run` and `sim` write is said yes to: each text that is a script's report in some order, and each report of a script that was played in an
+/// The outputs of `run` and `sim` get yes: each text that is a script's report in some order, and each report of a script that was played in an
 /// order.
 pub fn own_reports_are_said_yes_to()
     ensures run { RunsAreYes }

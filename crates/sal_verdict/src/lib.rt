@@ -1,12 +1,12 @@
-//! The verdict of an audit: whether a text is the report of a script, for the order on the text's own first line. Definitions and laws, and what is
-//! decided once the report of that order is written.
+//! The verdict of an audit: whether a text is the report of a script, for the order on the text's own first line. Definitions and laws, and the
+//! comparison with the report of that order.
 //!
 //! | item | what it is |
 //! |---|---|
 //! | `Verdict` | `Yes`, or `No` with the first line that differs |
 //! | `judged` | the verdict on a text by the report of the order that it states |
 //! | `line_of` | the line of a verdict |
-//! | `laws` | what the verdict means; that no text has two; that reports of `run` and `sim` are said yes to |
+//! | `laws` | the meaning of the verdict; no text has two; reports of `run` and `sim` get yes |
 //! | `examples` | worked examples |
 //!
 //! `specs/Verdicts` has the definition, over the play and the report of `sal_script`. `sal_audit` finds the verdict.
@@ -16,7 +16,7 @@
 //! // Verdict::No { line: 1 }
 //! ```
 //!
-//! Cost: one look at each byte that the two texts have in common at their front.
+//! Cost: one look at each byte of the common prefix of the two texts.
 #![tactic(auto)]
 
 pub mod examples;

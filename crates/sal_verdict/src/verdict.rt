@@ -1,4 +1,4 @@
-//! The verdict on a text that is said to be a report.
+//! The verdict on a text that may be a report.
 ghost use Rattle.std.specs.Prelude.{◌≡◌, IfOk};
 ghost use Rattle.sal_verdict.specs.Verdicts as spec;
 
@@ -6,13 +6,13 @@ use sal_order::difference;
 use sal_types::{NoMemory, Str};
 use std::alloc::Global;
 
-/// What an audit says of a text.
+/// The result of an audit of a text.
 #[derive(Clone, Copy, Debug, PartialEq, Eq)]
 pub enum Verdict {
     /// It is the report of the script, played in the order that its own first line states, and that order is legal.
     Yes,
-    /// It is not. The first line that differs from that report, counted from 0: the number of LF that the two have in common. It is 0 if the first line
-    /// states no legal order.
+    /// It is not. `line` is the first line that differs from that report, counted from 0: the number of LFs in their common prefix. It is 0 if the
+    /// first line states no legal order.
     No { line: u64 },
 }
 

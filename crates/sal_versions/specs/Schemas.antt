@@ -1,4 +1,4 @@
--- What the modules of a domain come to: the text of their schema, or that of their first fault.
+-- The schema of the modules of a domain, or the text of their first fault.
 use Rattle.std.specs.Prelude.{◌≡◌, ◌==◌, ℕ, ◌+◌, Bool, ◌&&◌, ◌||◌, if◌then◌else◌, List, [], ◌∷◌, ◌++◌, Option, None, Some, Result, Ok, Err, MatchResult, length, nat_eq, nat_le, codes, decimal}
 use Rattle.std.specs.List.{ends_with, list_all}
 use Rattle.sal_types.specs.Reading.{◌>>=◌}
@@ -18,7 +18,7 @@ use Rattle.sal_versions.specs.declared.schema_fault.SchemaFault.TheVariants.{Bad
 
 -- ---- the texts of faults
 
--- the word of a fault of a text, and its place
+-- the word of a fault of a text, and its offset
 abbrev pub stmt_words : StmtFault → Option (List ℕ × ℕ)
 stmt_words (stmt_fault.BadToken at) = Some (codes "bad-token", at)
 stmt_words (stmt_fault.BadEscape at) = Some (codes "bad-escape", at)
@@ -36,14 +36,14 @@ stmt_text number (Some (word, at)) = codes "module " ++ (decimal number ++ (32 �
 abbrev pub is_in_file_names : ℕ → Bool
 is_in_file_names c = continues_identifier c || c == 47
 
--- the name of a file, where a module's text should stand (asked only of a text that does not read)
+-- the name of a file in place of a module's text (tested only for a text with a fault)
 abbrev pub is_file_name : List ℕ → Bool
 is_file_name text = (nat_le (length text) 255 && ends_with nat_eq text (codes ".yang")) && list_all is_in_file_names text
 
 abbrev pub name_text : ℕ → List ℕ → List ℕ
 name_text number name = codes "module " ++ (decimal number ++ (codes " file-name " ++ name))
 
--- why the text of the module with this number does not read: it is a file's name, or has this fault
+-- why the text of the module with this number is refused: it is a file's name, or has this fault
 abbrev pub fault_text : ℕ → List ℕ → StmtFault → List ℕ
 fault_text number text fault = if is_file_name text then name_text number text else stmt_text number (stmt_words fault)
 
@@ -83,7 +83,7 @@ upgrade_text u text = codes "upgrade " ++ (decimal u ++ (32 ∷ text))
 
 -- ---- modules
 
--- the statement that was read of a text, or the text of its fault
+-- the statement of a text, or the text of its fault
 abbrev pub or_text : ℕ → List ℕ → Result Stmt StmtFault → Result Stmt (List ℕ)
 or_text number text (Ok stmt) = Ok stmt
 or_text number text (Err fault) = Err (fault_text number text fault)
@@ -94,28 +94,28 @@ statements_from number [] = Ok []
 statements_from number (text ∷ texts) =
     or_text number text (read text) >>= (λ stmt. statements_from (number + 1) texts >>= (λ stmts. Ok (stmt ∷ stmts)))
 
--- what was built, or the text of the fault
+-- the result of building, or the text of the fault
 abbrev pub in_words : {A : Type 0} → Result A BuildFault → Result A (List ℕ)
 in_words (Ok made) = Ok made
 in_words (Err fault) = Err (build_text fault)
 
--- The texts are read first, in their order, and the first fault of a text counts; then the schema is built.
+-- The texts are read first, in their order, and the first fault of a text is returned; then the schema is built.
 abbrev pub table_of : List (List ℕ) → Result SchemaTable (List ℕ)
 table_of texts = statements_from 0 texts >>= (λ stmts. in_words (build stmts))
 
--- ---- what a function returned
+-- ---- results of functions
 
 -- the fault has this text, unless memory ran out
 abbrev pub IsTold : List ℕ → SchemaFault → Type 0
 IsTold text (Bad words) = words ≡ text
 IsTold text NoMemory = Unit {0}
 
--- the fault is what is made, unless memory ran out
+-- the fault is that of the definition, unless memory ran out
 abbrev pub IsFaultOf : {Y : Type 0} → Result Y (List ℕ) → SchemaFault → Type 0
 IsFaultOf made (Bad text) = made ≡ Err text
 IsFaultOf made NoMemory = Unit {0}
 
--- what was made, seen by view, or its fault, unless memory ran out
+-- the result, seen by `view`, or its fault, unless memory ran out
 abbrev pub Makes : {X Y : Type 0} → (X → Y) → Result X SchemaFault → Result Y (List ℕ) → Type 0
 Makes view result made = MatchResult result (λ x. made ≡ Ok (view x)) (IsFaultOf made)
 

@@ -59,7 +59,7 @@ upgraded u versions (texts ∷ rest) = or_upgrade u (next_of versions texts) >>=
 abbrev pub versions_of : List (List ℕ) → List (List (List ℕ)) → Result Versions (List ℕ)
 versions_of modules upgrades = first_of modules >>= (λ versions. upgraded 1 versions upgrades)
 
--- versions as the code has them
+-- versions in the code's form
 abbrev pub seen : CodeVersions → Versions
 seen versions = record { stmts = versions.stmts.items; olds = versions.olds.items; latest = tabled versions.latest }
 

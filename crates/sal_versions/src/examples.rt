@@ -1,11 +1,11 @@
-//! Worked examples: a file's name in place of a module. Each function does nothing; its contract says what the definitions give, and the
+//! Worked examples: a file's name in place of a module. Each function does nothing; its contract states what the definitions give, and the
 //! proof computes it.
 #![tactic(auto)]
 
 ghost use Rattle.std.specs.Prelude.{◌≡◌, ◌∷◌, ◌++◌, [], Err, true, false, codes, replicate};
 ghost use Rattle.sal_versions.specs.Schemas as spec;
 
-/// What is the name of a file, and what is not.
+/// Names of files, and texts that are none.
 pub fn file_names()
     ensures plain { spec.is_file_name (codes "line.yang") ≡ true }
     ensures of_a_folder { spec.is_file_name (codes "../models/ietf_ip-1.1/A_0.yang") ≡ true }
@@ -18,7 +18,7 @@ pub fn file_names()
     ensures empty { spec.is_file_name [] ≡ false }
 {}
 
-/// What is said of modules of which one is a file's name. The first text that does not read counts.
+/// The fault of modules of which one is a file's name. The first text with a fault is named.
 pub fn told()
     ensures name { spec.table_of (codes "line.yang" ∷ []) ≡ Err (codes "module 0 file-name line.yang") }
     ensures of_a_folder { spec.table_of (codes "models/line.yang" ∷ []) ≡ Err (codes "module 0 file-name models/line.yang") }

@@ -7,7 +7,7 @@ pub fn versions_are_in_order()
     ensures { VersionsAreInOrder }
 {}
 
-/// The module of a load is read and built, and has one version: its table is the one that `LoadExamples` of `sal_script` has.
+/// The module of a load is read and built, and has one version: its table is the one in `LoadExamples` of `sal_script`.
 pub fn loads_have_one_version()
     ensures { LoadsHaveOneVersion }
 {}

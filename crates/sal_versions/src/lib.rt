@@ -4,7 +4,7 @@
 //! |---|---|
 //! | `schema` | `schema_of`: the schema that the texts of modules build |
 //! | `versions` | `versions_of`: the schema of the modules, and one for each upgrade |
-//! | `shared` | the schemas of versions, shared by what reads and what is read |
+//! | `shared` | the schemas of versions, shared by readers and writers |
 //! | `schema_fault` | `SchemaFault`: the texts of their faults |
 //! | `examples` | computed: texts that are names of files |
 //! | `laws` | each version extends the one before; the module of a load has one version |

@@ -1,4 +1,4 @@
-//! Why modules build no schema, as a text.
+//! Why modules give no schema, as a text.
 ghost use Rattle.std.specs.Prelude.{◌≡◌, MatchResult, IfOk, option_map, string_bytes};
 ghost use Rattle.std.specs.List.{list_all};
 ghost use Rattle.sal_stmt.specs.Words as words;
@@ -10,10 +10,11 @@ use sal_types::{NoMemory, Str};
 use std::alloc::{AllocError, AllocFailed, Global};
 use thiserror::Error;
 
-/// Why modules build no schema.
+/// Why modules give no schema.
 #[derive(Debug, Drop, PartialEq, Eq, Error)]
 pub enum SchemaFault {
-    /// The first fault: `module 0 unclosed 9`, `module 0 file-name line.yang`, or `build missing 0 0 namespace`, or of an upgrade `upgrade 1 module 1 unclosed 9`.
+    /// The first fault: `module 0 unclosed 9`, `module 0 file-name line.yang`, or `build missing 0 0 namespace`, or of an upgrade `upgrade 1 module
+    /// 1 unclosed 9`.
     #[error("bad schema: {}", .text.as_str())]
     Bad { text: Str },
     /// Memory ran out.
@@ -63,7 +64,7 @@ fn told(text: Result<String, AllocError>) -> SchemaFault
     }
 }
 
-// The word of a fault of a text, and its place; none for want of memory.
+// The word of a fault of a text, and its offset; none for `NoMemory`.
 fn stmt_words(fault: StmtFault) -> Option<(&'static str, u32)>
     ensures { option_map (λ p. (p.0.now, p.1)) result ≡ spec.stmt_words fault }
 {
@@ -110,7 +111,7 @@ fn name_text(alloc: Global, number: usize, name: &Str) -> Result<String, AllocEr
     format!(in alloc; "module {number} file-name {name}")
 }
 
-// Why the text of the module with this number does not read.
+// Why the text of the module with this number is refused.
 pub(crate) fn of_text(alloc: Global, number: usize, text: &Str, fault: StmtFault) -> SchemaFault
     ensures told { spec.IsTold (spec.fault_text number text.now fault) result }
     ensures memory { fault ≡ StmtFault.NoMemory → result ≡ SchemaFault.NoMemory }
@@ -193,7 +194,7 @@ fn placed(alloc: Global, word: &str, module: u32, at: u32) -> Result<String, All
     format!(in alloc; "build {word} {module} {at}")
 }
 
-// A fault at a place of a module, with the keyword that it speaks of.
+// A fault at a place of a module, with the keyword that it names.
 fn with_keyword(
     alloc: Global,
     word: &str,

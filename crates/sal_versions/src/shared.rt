@@ -25,7 +25,7 @@ pub fn shared(alloc: Global, versions: Versions) -> Result<Vec<Arc<Schema>>, NoM
     Ok(schemas)
 }
 
-// One version more.
+// One more version.
 fn add_version(
     alloc: Global,
     schemas: &mut Vec<Arc<Schema>>,
@@ -49,7 +49,7 @@ pub fn shared_again(alloc: Global, schemas: &[Arc<Schema>]) -> Result<Vec<Arc<Sc
     Ok(shared)
 }
 
-/// Adds the schema, shared once more, at the end.
+/// Appends the schema, shared.
 pub fn add_shared(schemas: &mut Vec<Arc<Schema>>, schema: &Arc<Schema>) -> Result<(), NoMemory>
     ensures { IfOk result (λ _. tables_in schemas.new.items ≡ tables_in schemas.old.items ++ schema.now.value ∷ []) }
 {

@@ -75,7 +75,7 @@ fn built(alloc: Global, stmts: Vec<Stmt>) -> Result<Versions, SchemaFault>
 
 // ---- an upgrade
 
-// The versions with one more, to which the upgrade with this number leads.
+// The versions with one more, that of the upgrade with this number.
 fn upgraded(
     alloc: Global,
     number: usize,
@@ -95,7 +95,7 @@ fn upgraded(
     }
 }
 
-// The versions with one more, of which these texts are the modules that are new.
+// The versions with one more, with these texts as its new modules.
 fn next_of(alloc: Global, versions: Versions, texts: &[Str]) -> Result<Versions, SchemaFault>
     requires short { IsTrue (are_short texts.now) }
     requires of { IsVersionOf versions.stmts.items (tabled versions.latest) }
@@ -147,7 +147,7 @@ fn built_on(alloc: Global, versions: Versions, old: usize) -> Result<Versions, S
     }
 }
 
-// The versions with a later one. The nodes from which it grew are let go.
+// The versions with a later one. The nodes of the version before are dropped.
 fn with_latest(versions: Versions, latest: SchemaVersion) -> Result<Versions, NoMemory>
     ensures seen { IfOk result (λ v. spec.seen v ≡ spec.with_latest (spec.seen versions) (tabled latest)) }
     ensures stmts { IfOk result (λ v. v.stmts ≡ versions.stmts) }

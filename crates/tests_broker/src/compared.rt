@@ -17,7 +17,7 @@ use sal_types::{NoMemory, Path, Store};
 use std::alloc::Global;
 use std::test::Fail;
 
-// Calls that no other crate makes, or that find in another way what the broker finds: each beside the other way.
+// Calls that no other crate makes, or that find the broker's results in another way: each compared with the other way.
 
 // The list 0 with its key 1 and the mandatory leaf 2, and the container 3 with the leaf 4.
 fn shapes() -> [Shape; 5] {
@@ -59,7 +59,7 @@ fn whole(alloc: Global, domain: &Domain, wish: Wish) -> Result<Option<Breach>, F
     Ok(check_all(alloc, &domain.schema, Store::Config, &tree)?)
 }
 
-// The number of the leaf that is missing at the path; 0 where no rule is broken, and 9 where another one is.
+// The number of the leaf that is missing at the path; 0 if no rule is broken, and 9 if another one is.
 fn missing_in(breach: &Option<Breach>, path: &Path) -> u32 {
     match breach {
         None => 0,
@@ -86,7 +86,7 @@ fn missing(rule: Rule, at: &Path, path: &Path) -> u32 {
     }
 }
 
-// What the check of the whole tree finds missing in the entry, and what the decision does.
+// The missing leaf by the check of the whole tree, and by the decision.
 fn both_missing(domain: &mut Domain, alloc: Global, wish: Wish) -> Result<[u32; 2], Fail>
     requires { AreKept domain.old.commits.items }
     ensures { IfOk result (λ o. AreKept domain.new.commits.items) }
@@ -125,7 +125,7 @@ fn commit_at(commits: &[Commit], number: usize) -> &Commit
     &commits[number]
 }
 
-// What the commit after the one of this number changed at the path, by both trees.
+// The changes of the commit after the one of this number at the path, by both trees.
 fn by_trees(
     alloc: Global,
     commits: &[Commit],
@@ -144,7 +144,7 @@ fn is_same(one: &Change, other: &Change) -> bool {
     (one.path == other.path && one.before == other.before) && one.after == other.after
 }
 
-// How many changes there are, where both lists have the same; else none.
+// The number of changes, if both lists have the same; else none.
 fn count_same(by_trees: &[Change], by_ops: &[Change]) -> usize {
     let mut count = 0usize;
     for (one, other) in by_trees.iter().zip(by_ops) {
@@ -159,7 +159,7 @@ fn count_same(by_trees: &[Change], by_ops: &[Change]) -> usize {
     }
 }
 
-// The same by the commit's operations, which the batch of a listener goes by: how many changes both ways find.
+// The same by the commit's operations, which a listener's batch uses: the number of changes by both ways.
 fn found_twice(
     alloc: Global,
     commits: &[Commit],
@@ -266,7 +266,7 @@ fn rows_in_tree(alloc: Global, ops: &[Op]) -> Result<Rows, Fail> {
     Ok(tree.rows(alloc, &Path::root(alloc))?)
 }
 
-// How many rows there are, where both ways leave the same; else none.
+// The number of rows, if both ways give the same; else none.
 fn applied(alloc: Global, ops: &[Op]) -> Result<usize, Fail> {
     let rows = rows_by(alloc, ops)?;
     let other = rows_in_tree(alloc, ops)?;

@@ -66,25 +66,25 @@ pub(crate) fn text_row(alloc: Global, node: u32, value: &str) -> Result<Row, NoM
     })
 }
 
-/// Puts a row at the end.
+/// Appends a row.
 pub(crate) fn add(rows: &mut Vec<Row>, row: Row) -> Result<(), NoMemory> {
     rows.push(row)?;
     Ok(())
 }
 
-/// Puts the rows of an entry without its leaf at the end.
+/// Appends the rows of an entry without its leaf.
 pub(crate) fn add_bare(rows: &mut Vec<Row>, alloc: Global, key: u64) -> Result<(), NoMemory> {
     add(rows, mark(alloc, key)?)?;
     add(rows, number_row(alloc, key, 1, key)?)
 }
 
-/// Puts the rows of an entry at the end.
+/// Appends the rows of an entry.
 pub(crate) fn add_entry(rows: &mut Vec<Row>, alloc: Global, key: u64) -> Result<(), NoMemory> {
     add_bare(rows, alloc, key)?;
     add(rows, number_row(alloc, key, 2, 0)?)
 }
 
-/// Puts the rows of the entries with the keys below a number at the end.
+/// Appends the rows of the entries with the keys below a number.
 pub(crate) fn add_entries(rows: &mut Vec<Row>, alloc: Global, count: u64) -> Result<(), NoMemory> {
     for key in 0..count {
         add_entry(rows, alloc, key)?;

@@ -53,8 +53,8 @@ fn count(nodes: &[&Child], stamp: u64) -> usize {
     count
 }
 
-// The stamp of the root; of the nodes below it how many have the stamp of the first receipt, and how many that of the opening; and how
-// many there are.
+// The stamp of the root; of the nodes below it how many have the stamp of the first receipt, and how many that of the opening; and the number
+// of all.
 fn counts(alloc: Global, root: &Root) -> Result<[usize; 4], NoMemory> {
     let mut nodes = root.node().children(alloc)?;
     add_below(&mut nodes, alloc)?;
@@ -92,7 +92,7 @@ fn one_more(alloc: Global) -> Result<[usize; 4], Fail> {
     put_in(alloc, &domain)
 }
 
-// The put has three rows, and the nodes on the way to each of them are at most 33, the root and one for each of at most 32 steps: so a
+// The put has three rows, and the paths to each of them have at most 33 nodes, the root and one for each of at most 32 steps: so a
 // decision makes at most 99 of the 30,005 nodes. It makes five: the root, and below it the list, the entry, its key and its leaf. All others
 // are those of the opening.
 #[test]

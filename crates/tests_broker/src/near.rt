@@ -13,7 +13,7 @@ use sal_types::{NoMemory, Row};
 use std::alloc::Global;
 use std::test::Fail;
 
-// How many entries the opening has, and how many times a decision and a conflict are asked for. Where a decision looked at all rows, or a conflict
+// The number of entries of the opening, and of repetitions of a decision and a conflict. If a decision looked at all rows, or a conflict
 // at all commits, neither would end in the time of a test.
 const CELLS: u64 = 200_000;
 
@@ -46,7 +46,7 @@ fn many(alloc: Global) -> Result<Domain, Fail>
     opened(alloc, &shapes(), rows)
 }
 
-// Whether so many merges of the first leaf are done, one after another.
+// Whether `count` merges of the first leaf are done, one after another.
 fn all_are_next(domain: &mut Domain, alloc: Global, count: u64) -> Result<bool, Fail>
     requires { AreKept domain.old.commits.items }
     ensures { IfOk result (λ b. AreKept domain.new.commits.items) }

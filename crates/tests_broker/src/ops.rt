@@ -70,7 +70,7 @@ pub(crate) fn op_of(alloc: Global, wish: Wish) -> Result<Op, Fail> {
     })
 }
 
-/// Whether the rows of an operation lie at and below its path.
+/// Whether the rows of an operation are at and below its path.
 pub(crate) fn lies_below(op: &Op) -> bool
     ensures { IsTrue result → under (rows_of_act op.now.act) op.now.path ≡ rows_of_act op.now.act }
 {

@@ -9,7 +9,7 @@ use std::alloc::Global;
 use std::sync::Arc;
 use std::test::Fail;
 
-/// A node of the configuration: the number of its parent, what it is, its name, its key where it is a list, and whether it is mandatory.
+/// A node of the configuration: the number of its parent, its kind, its name, its key if it is a list, and whether it is mandatory.
 #[derive(Clone, Copy)]
 pub(crate) struct Shape {
     parent: Option<u32>,

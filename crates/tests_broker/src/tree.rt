@@ -30,10 +30,11 @@ fn put_in_order(alloc: Global) -> Result<Root, Fail> {
     Ok(root)
 }
 
-// How many pages the list has, where they are not in sheets.
+// The number of pages of the list, if they are not in sheets.
 fn pages(root: &Root, list: &Path) -> usize {
     match root.get(list) {
         Some(node) => match &node.paging {
+            Paging::Few(_) => 0,
             Paging::Pages(pages) => pages.len(),
             Paging::Sheets(_) => 0,
         },
@@ -64,7 +65,7 @@ fn again(alloc: Global, root: &Root, list: &Path, rows: &Rows) -> Result<[usize;
     Ok([is_alike(root, &again, list) as usize, is_same as usize])
 }
 
-// The same of the tree made of a tree's own rows.
+// The same for the tree made of a tree's own rows.
 fn made_again(alloc: Global, root: &Root, list: &Path) -> Result<[usize; 2], NoMemory> {
     let rows = root.rows(alloc, list)?;
     again(alloc, root, list, &rows)

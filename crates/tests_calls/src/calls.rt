@@ -15,7 +15,7 @@ use std::alloc::Global;
 use std::sync::Wait;
 use std::test::Fail;
 
-// What the calls of one client answer: 1 for an answer without a number.
+// The results of the calls of one client: 1 for a result without a number.
 const ALONE: [(&str, u64); 22] = [
     ("upgrade", 1),
     ("begin", 1),
@@ -41,7 +41,7 @@ const ALONE: [(&str, u64); 22] = [
     ("mount_at again: none", 0),
 ];
 
-// What those of two clients answer.
+// Those of two clients.
 const TOGETHER: [(&str, u64); 17] = [
     ("listen: its number", 2),
     ("listen: the newest commit", 2),
@@ -65,7 +65,7 @@ const TOGETHER: [(&str, u64); 17] = [
 // An entry of each call.
 const ENTRIES: u64 = 35;
 
-// What one seat does.
+// The calls of one seat.
 fn alone<R: Wait>(at: &Desk<'_, R>, seat: &mut Seat) -> [u64; 22]
     requires lock { seat.old.lock ≡ at.now.sal.now }
     requires version { upgrades_of (known seat.old.view).world ≡ 1 }
@@ -107,7 +107,7 @@ fn alone<R: Wait>(at: &Desk<'_, R>, seat: &mut Seat) -> [u64; 22]
     ]
 }
 
-// What two seats do.
+// The calls of two seats.
 fn together<R: Wait>(at: &Desk<'_, R>, one: &mut Seat, two: &mut Seat) -> [u64; 17]
     requires { (one.old.lock ≡ at.now.sal.now) × (two.old.lock ≡ at.now.sal.now) }
     ensures one { Keeps at.now.sal.now one.old one.new }
@@ -124,7 +124,7 @@ fn together<R: Wait>(at: &Desk<'_, R>, one: &mut Seat, two: &mut Seat) -> [u64; 
     ]
 }
 
-// How long the log is, by a turn in the caller's hands.
+// The length of the log, by a turn of the caller.
 fn entered<R: Wait>(at: &Desk<'_, R>, seat: Seat) -> u64
     requires { seat.lock ≡ at.now.sal.now }
 {
@@ -134,7 +134,7 @@ fn entered<R: Wait>(at: &Desk<'_, R>, seat: Seat) -> u64
     entries
 }
 
-// What differs from what is wanted, if something does.
+// The name of a result that differs from the wanted one, if any.
 fn wrong(found: &[u64], wanted: &[(&'static str, u64)]) -> Option<&'static str> {
     if found.len() != wanted.len() {
         return Some("the count");
@@ -168,7 +168,7 @@ fn first_wrong<R: Wait>(at: &Desk<'_, R>, mut one: Seat) -> Option<&'static str>
     None
 }
 
-// The same, with the broker. Nothing is dropped: each drop would be one more thing to prove.
+// The same, with the broker. Nothing is dropped: each drop would need another proof.
 fn tried<R: Wait>(rt: &R, alloc: Global) -> Option<&'static str> {
     match opened(alloc) {
         Some((sal, seat)) => {

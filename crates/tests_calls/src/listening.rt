@@ -12,7 +12,7 @@ use sal_rows::{Batch, CallFault};
 use sal_types::Store;
 use std::sync::Wait;
 
-// A listener, and the commit from which on it listens.
+// A listener, and the commit of its opening.
 fn listened<R: Wait>(at: &Desk<'_, R>, seat: &mut Seat) -> Option<(ListenerId, u64)>
     requires { seat.old.lock ≡ at.now.sal.now }
     ensures same { Keeps at.now.sal.now seat.old seat.new }
@@ -82,7 +82,7 @@ pub(crate) fn removed<R: Wait>(at: &Desk<'_, R>, seat: &mut Seat) -> [u64; 3]
     }
 }
 
-/// A mark that is left and found: `mark`, `after`.
+/// A mark that is set and found: `mark`, `after`.
 pub(crate) fn found<R: Wait>(at: &Desk<'_, R>, seat: &mut Seat) -> [u64; 2]
     requires { seat.old.lock ≡ at.now.sal.now }
     ensures { Keeps at.now.sal.now seat.old seat.new }

@@ -14,7 +14,7 @@ use std::alloc::Global;
 use std::mem::ManuallyDrop;
 use std::sync::Arc;
 
-/// What a call takes beside a seat: the runtime, the broker, and the path of the root.
+/// The arguments of a call other than a seat: the runtime, the broker, and the path of the root.
 #[derive(Drop)]
 pub(crate) struct Desk<'a, R> {
     pub(crate) rt: &'a R,
@@ -23,7 +23,7 @@ pub(crate) struct Desk<'a, R> {
     pub(crate) top: &'a Path,
 }
 
-/// Lets the value go without a drop, which would be one more thing to prove: with all that a broker holds, one for each type.
+/// Forgets the value without a drop, which would need another proof: with all parts of a broker, one for each type.
 pub(crate) fn let_go<T>(value: T) {
     let _left = unsafe { ManuallyDrop::new_unchecked(value) };
 }
@@ -75,7 +75,7 @@ fn domain(alloc: Global, schema: Arc<Schema>, upgrades: Vec<Arc<Schema>>) -> Dev
     }
 }
 
-// Puts the schema once more at the end, as a version.
+// Appends the schema, shared, as a version.
 fn add_version(upgrades: &mut Vec<Arc<Schema>>, schema: &Arc<Schema>) -> bool
     ensures { IsTrue result → tables_of upgrades.new.items ≡ tables_of upgrades.old.items ++ schema.now.value ∷ [] }
 {
@@ -91,7 +91,7 @@ fn add_version(upgrades: &mut Vec<Arc<Schema>>, schema: &Arc<Schema>) -> bool
     }
 }
 
-// Puts a domain at the end.
+// Appends a domain.
 fn add_domain(devices: &mut Vec<Device>, device: Device) -> bool
     ensures { IsTrue result → devices.new.items ≡ devices.old.items ++ device ∷ [] }
 {
@@ -104,7 +104,7 @@ fn add_domain(devices: &mut Vec<Device>, device: Device) -> bool
     }
 }
 
-// The domain of the schema and of these later versions, put at the end.
+// The domain of the schema and of these later versions, appended.
 fn add(
     alloc: Global,
     devices: &mut Vec<Device>,

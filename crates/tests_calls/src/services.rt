@@ -50,7 +50,7 @@ fn next<R: Wait>(at: &Desk<'_, R>, seat: &mut Seat) -> [u64; 2]
     request
 }
 
-// The first request is handed out, and answered: its number, its RPC, and 1.
+// The first request is taken, and answered: its number, its RPC, and 1.
 fn answered<R: Wait>(at: &Desk<'_, R>, seat: &mut Seat) -> [u64; 3]
     requires { seat.old.lock ≡ at.now.sal.now }
     ensures { Keeps at.now.sal.now seat.old seat.new }
@@ -138,7 +138,7 @@ fn taken<R: Wait>(at: &Desk<'_, R>, seat: &mut Seat) -> [u64; 2]
     notes
 }
 
-// How many subscribers have got it.
+// The number of subscribers that got it.
 fn offered<R: Wait>(at: &Desk<'_, R>, seat: &mut Seat) -> u64
     requires { seat.old.lock ≡ at.now.sal.now }
     ensures { Keeps at.now.sal.now seat.old seat.new }
@@ -165,7 +165,7 @@ pub(crate) fn notified<R: Wait>(at: &Desk<'_, R>, one: &mut Seat, two: &mut Seat
 
 // ---- mounts
 
-// The domain that is mounted at the root, plus 1; 0 where none is.
+// The domain that is mounted at the root, plus 1; 0 if none is.
 fn looked<R: Wait>(at: &Desk<'_, R>, seat: &mut Seat) -> u64
     requires { seat.old.lock ≡ at.now.sal.now }
     ensures { Keeps at.now.sal.now seat.old seat.new }
@@ -176,7 +176,7 @@ fn looked<R: Wait>(at: &Desk<'_, R>, seat: &mut Seat) -> u64
     }
 }
 
-/// The device is mounted at the root, found there, unmounted, and gone: `mount`, `mount_at`, `unmount`, `mount_at`.
+/// The device is mounted at the root, found there, unmounted, and no longer found: `mount`, `mount_at`, `unmount`, `mount_at`.
 pub(crate) fn mounted<R: Wait>(at: &Desk<'_, R>, seat: &mut Seat) -> [u64; 4]
     requires { seat.old.lock ≡ at.now.sal.now }
     ensures { Keeps at.now.sal.now seat.old seat.new }
@@ -189,7 +189,7 @@ pub(crate) fn mounted<R: Wait>(at: &Desk<'_, R>, seat: &mut Seat) -> [u64; 4]
 
 // ---- versions
 
-/// The schema of the controller's own domain goes over to its second version: `upgrade`.
+/// The schema of the controller's own domain is upgraded to its second version: `upgrade`.
 pub(crate) fn upgraded<R: Wait>(at: &Desk<'_, R>, seat: &mut Seat) -> u64
     requires lock { seat.old.lock ≡ at.now.sal.now }
     requires version { 1 ≤ upgrades_of (known seat.old.view).world }

@@ -48,7 +48,7 @@ fn cancelled<R: Wait>(at: &Desk<'_, R>, seat: &mut Seat, tx: Tx) -> u64
     }
 }
 
-/// A transaction that is given up: `begin`, `cancel`.
+/// A transaction that is cancelled: `begin`, `cancel`.
 pub(crate) fn given_up<R: Wait>(at: &Desk<'_, R>, seat: &mut Seat) -> [u64; 2]
     requires { seat.old.lock ≡ at.now.sal.now }
     ensures { Keeps at.now.sal.now seat.old seat.new }
@@ -112,7 +112,7 @@ pub(crate) fn committed<R: Wait>(at: &Desk<'_, R>, seat: &mut Seat) -> [u64; 2]
     }
 }
 
-/// Decides the first submission that is pending: `pump`. Its receipt and its commit.
+/// Decides the first pending submission: `pump`. Its receipt and its commit.
 pub(crate) fn pumped<R: Wait>(at: &Desk<'_, R>, seat: &mut Seat) -> [u64; 2]
     requires { seat.old.lock ≡ at.now.sal.now }
     ensures { Keeps at.now.sal.now seat.old seat.new }

@@ -11,7 +11,7 @@ use std::io;
 use std::sync::Wait;
 use std::thread::Threads;
 
-// How many reads fail in turn at most: the input has ended before.
+// The largest number of reads that fail in turn: the input has ended before.
 const MOST_READS: u64 = 1000;
 
 // A case that is played many times: its words, its input and the output that is wanted without a fault.
@@ -24,7 +24,7 @@ struct Trial<'a, R> {
     wanted: &'a str,
 }
 
-// How a play ends: the number of its status, how much was written, and whether that is a front of what is wanted.
+// The end of a play: the number of its status, how much was written, and whether that is a prefix of the wanted output.
 type End = (u8, usize, bool);
 
 /// Plays each case that the text names, as FOLDER/NAME, one a line, and prints how many plays there were, and how many differ.
@@ -81,7 +81,7 @@ fn faults_over<R: Threads + Wait + Sync>(
     Ok(reads.and(rooms))
 }
 
-// Each read fails in turn, the last one that is made too; then one fails that is not made.
+// Each read fails in turn, also the last one that is made; then one fails that is not made.
 fn at_each_read<R: Threads + Wait + Sync>(trial: &Trial<'_, R>) -> io::Result<Tally> {
     let mut tally = Tally::new();
     for read in 0..MOST_READS {

@@ -68,7 +68,7 @@ fn name_in(line: &str) -> Option<&str> {
     Some(name)
 }
 
-// Whether the case differs from what is wanted, which is printed.
+// Whether the case differs from its wanted result; a difference is printed.
 fn is_differing<R: Threads + Wait + Sync>(threads: &R, case: Case<'_>) -> io::Result<bool> {
     let difference = play::difference(threads, case)?;
     if difference.is_empty() {
@@ -81,7 +81,7 @@ fn is_differing<R: Threads + Wait + Sync>(threads: &R, case: Case<'_>) -> io::Re
     Ok(true)
 }
 
-// How many files of the folder belong to no case of the list. Each is printed.
+// The number of files of the folder that belong to no case of the list. Each is printed.
 fn strays(rt: &HostRuntime, folder: &str, list: &str) -> io::Result<u32> {
     let mut strays = 0u32;
     for entry in fs::read_dir(rt, folder)? {

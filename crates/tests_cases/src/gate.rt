@@ -2,10 +2,10 @@
 use sal_io::Gate;
 use std::sync::atomic::{AtomicU64, Ordering};
 
-// How many rounds a load has at most.
+// The largest number of rounds of a load.
 const MAX_ROUNDS: u32 = 10000;
 
-/// How many steps, and the sum of their places, which distinguishes one step from another.
+/// The number of steps, and the sum of their places, which distinguishes one step from another.
 #[derive(Clone, Copy, PartialEq, Eq)]
 pub struct Steps {
     pub count: u64,
@@ -28,12 +28,12 @@ impl Steps {
     }
 }
 
-// A number of its own for each step of each client.
+// A different number for each step of each client.
 fn place(client: u32, step: u32) -> u64 {
     (u64::from(client) << 32) | u64::from(step)
 }
 
-/// A gate that lets everybody pass at once, and counts.
+/// A gate that lets every client pass at once, and counts.
 #[derive(Drop)]
 pub struct CountingGate {
     count: AtomicU64,
@@ -41,7 +41,7 @@ pub struct CountingGate {
 }
 
 impl CountingGate {
-    /// A gate that nobody has passed.
+    /// A gate that no client has passed.
     pub fn new() -> Self {
         CountingGate {
             count: AtomicU64::new(0),
@@ -65,7 +65,7 @@ impl Gate for CountingGate {
     }
 }
 
-/// The steps that a report answers, or those of a load that its summary has; none if the text is neither.
+/// The steps that a report answers, or those of a load by its summary; none if the text is neither.
 pub fn answered(text: &str) -> Steps {
     if text.starts_with("order") {
         reported(text)
@@ -102,7 +102,7 @@ fn rounds_of(text: &str) -> Option<u32> {
     rounds.parse::<u32>().ok()
 }
 
-// The client and the number of the step that the line answers; none where it is another line of a report.
+// The client and the number of the step that the line answers; none if it is another line of a report.
 fn step_of(line: &str) -> Option<(u32, u32)> {
     let (client, rest) = line.split_once(' ')?;
     let (step, _) = rest.split_once(' ')?;

@@ -16,7 +16,7 @@ pub fn of_case(case: Case<'_>) -> io::Result<String> {
     }
 }
 
-// The script, with the modules of the folder as its first member if there are some.
+// The script, with the modules of the folder as its first member if there are any.
 fn script(case: Case<'_>) -> io::Result<String> {
     if case.shares("modules.yang")? {
         let modules = case.shared_text("modules.yang")?;
@@ -45,7 +45,7 @@ fn push_script(all: &mut String, modules: &str, script: &str) -> io::Result<()> 
     Ok(())
 }
 
-// A script that has modules alone.
+// A script with modules only.
 fn of_modules(alloc: Global, modules: &str) -> io::Result<String> {
     let mut all = String::new(alloc);
     push_alone(&mut all, modules)?;
@@ -71,7 +71,7 @@ fn push_modules(all: &mut String, modules: &str) -> io::Result<()> {
     Ok(())
 }
 
-// What is between a line and the one before, if one was begun.
+// The text between a line and the one before, if one was begun.
 fn ahead_of(line: &str, begun: bool) -> &'static str {
     if !begun {
         "\""
@@ -111,7 +111,7 @@ fn push_parts(all: &mut String, parts: &str) -> io::Result<()> {
     Ok(())
 }
 
-// The text so many times, with the number of each in place of `#`.
+// The text `count` times, with the number of each in place of `#`.
 fn push_times(all: &mut String, text: &str, count: u32) -> io::Result<()> {
     match text.split_once('#') {
         Some((front, behind)) => {

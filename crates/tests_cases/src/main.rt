@@ -1,23 +1,23 @@
-//! Plays the cases in the folders of `data/`, and prints which differ from what is expected.
+//! Plays the cases in the folders of `data/`, and prints those that differ from the wanted result.
 //!
 //! `folders.txt` lists the folders. The file `README.md` of a folder has a line for each of its cases, a dash and the name between
 //! backquotes, and what the case shows. A case is some files with its name:
 //!
-//! | file | what it has |
+//! | file | content |
 //! |---|---|
 //! | `NAME.json` | the input; in a folder with a file `modules.yang` without its modules, which are those |
 //! | `NAME.yang` | or the modules of an input that has nothing else; each begins on a line of its own with `module` |
-//! | `NAME.parts` | or lines `COUNT |TEXT|`: the input has each text so many times; `#` is the number of the time, from 0 |
-//! | `NAME.txt` | the wanted output; none where it is empty |
-//! | `NAME.status` | the wanted exit status and the line on standard error; none where the status is 0 |
+//! | `NAME.parts` | or lines `COUNT |TEXT|`: the input has each text COUNT times; `#` is the number of the repetition, from 0 |
+//! | `NAME.txt` | the wanted output; absent if it is empty |
+//! | `NAME.status` | the wanted exit status and the line on standard error; absent if the status is 0 |
 //! | `NAME.words` | the words of the command line, one a line; else those of the folder's file `words`, else `sim` |
-//! | `NAME.faults` | lines `read N` and `write N` for calls of the source and the sink that fail, counted from 0, and `room N` for a sink that is full after so many bytes |
+//! | `NAME.faults` | lines `read N` and `write N`: calls that fail, counted from 0; `room N`: the sink is full after N bytes |
 //!
 //! A file that belongs to no case is listed, and so is a case that lacks its files. If a report or a summary is written, the gate must
 //! have been passed once before each step.
 //!
-//! `each_fault.txt` lists cases that are played once more for each read of their input, which fails, and for each number of bytes, for
-//! which alone the sink has room.
+//! `each_fault.txt` lists cases that are played again with each read of their input failing in turn, and with a sink that has room for
+//! each number of bytes.
 #![tactic(auto)]
 
 mod case;

@@ -1,4 +1,4 @@
-//! Plays a case by the top call, and compares what it answers with what is wanted.
+//! Plays a case by the top call, and compares the result with the wanted one.
 use crate::case::Case;
 use crate::gate::{self, CountingGate, Steps};
 use crate::input;
@@ -12,13 +12,13 @@ use std::io::{Error, ErrorKind};
 use std::sync::Wait;
 use std::thread::Threads;
 
-// How many bytes the sink of a case takes that names no room.
+// The number of bytes that the sink of a case takes if no room is given.
 const ROOM: u64 = 1048576;
 
-// How a case ends for which nothing else is wanted.
+// The default end of a case.
 const DONE: &str = "0 ";
 
-/// How the command ended, as a file `NAME.status` has it, before which steps the gate was passed, and what was written.
+/// How the command ended, as in a file `NAME.status`, before which steps the gate was passed, and the output.
 #[derive(Drop)]
 struct Outcome {
     ended: String,
@@ -26,7 +26,7 @@ struct Outcome {
     sink: MemSink,
 }
 
-/// In what the case differs from what is wanted; empty where it does not. Clients that run at the same time have their threads of
+/// How the case differs from its wanted result; empty if it does not. Clients that run at the same time have their threads of
 /// the runtime.
 pub fn difference<R: Threads + Wait + Sync>(threads: &R, case: Case<'_>) -> io::Result<String> {
     match compared(threads, case) {

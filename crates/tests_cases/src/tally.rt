@@ -1,6 +1,6 @@
-//! How many cases were played, and how many of them differ.
+//! The number of cases that were played, and of those that differ.
 
-/// Numbers of cases. They stay at the greatest number rather than wrap.
+/// Numbers of cases. They saturate at the greatest number.
 #[derive(Clone, Copy)]
 pub struct Tally {
     pub played: u32,
@@ -8,7 +8,7 @@ pub struct Tally {
 }
 
 impl Tally {
-    /// No case.
+    /// No cases.
     pub fn new() -> Self {
         Tally {
             played: 0,
@@ -16,7 +16,7 @@ impl Tally {
         }
     }
 
-    /// One case more.
+    /// One more case.
     pub fn with(self, differs: bool) -> Self {
         Tally {
             played: self.played.saturating_add(1),
@@ -24,7 +24,7 @@ impl Tally {
         }
     }
 
-    /// So many more that differ, which are no cases.
+    /// This many more that differ, which are no cases.
     pub fn with_strays(self, strays: u32) -> Self {
         Tally {
             played: self.played,

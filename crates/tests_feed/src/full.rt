@@ -1,10 +1,9 @@
-//! A feed that is full gives a notification back, and `finish` gives what is left.
+//! A full feed returns a notification, and `finish` returns the remaining ones.
 ghost use Rattle.std.specs.Prelude.{◌≡◌};
 
 use sal_feed::{Feed, OfferSeat, TakeSeat};
 use sal_note::{Note, NoteList};
 use sal_rows::Rows;
-use sal_types::NoMemory;
 use std::alloc::Global;
 use std::sync::Wait;
 use std::test::Fail;
@@ -16,7 +15,7 @@ fn note_of(alloc: Global, number: u32) -> Note {
     }
 }
 
-// The note that came back, if one did.
+// The notification that was returned, if any.
 fn offered<R: Wait>(rt: &R, feed: &Feed, seat: &mut OfferSeat, note: Note) -> Option<u32>
     requires { seat.old.feed ≡ feed.now.id }
     ensures { seat.new.feed ≡ seat.old.feed }
@@ -27,7 +26,7 @@ fn offered<R: Wait>(rt: &R, feed: &Feed, seat: &mut OfferSeat, note: Note) -> Op
     }
 }
 
-// The note that was taken, if one was.
+// The notification that was taken, if any.
 fn taken<R: Wait>(rt: &R, feed: &Feed, seat: &mut TakeSeat) -> Option<u32>
     requires { seat.old.feed ≡ feed.now.id }
     ensures { seat.new.feed ≡ seat.old.feed }
@@ -38,30 +37,13 @@ fn taken<R: Wait>(rt: &R, feed: &Feed, seat: &mut TakeSeat) -> Option<u32>
     }
 }
 
-/// The notes that are left, if there was memory for them.
-pub(crate) fn finished<R: Wait>(
-    rt: &R,
-    alloc: Global,
-    feed: Feed,
-    offers: OfferSeat,
-    takes: TakeSeat,
-) -> Result<NoteList, NoMemory>
-    requires offers { offers.feed ≡ feed.id }
-    requires takes { takes.feed ≡ feed.id }
-{
-    match feed.finish(rt, alloc, offers, takes) {
-        Ok(left) => Ok(left),
-        Err((_feed, _offers, _takes, refused)) => Err(refused),
-    }
-}
-
-// Whether the notes are these two.
+// Whether the notifications are these two.
 fn are_just(list: &NoteList, first: u32, second: u32) -> bool {
     let notes = list.items();
     notes.len() == 2 && notes[0].note == first && notes[1].note == second
 }
 
-// Whether three notes at capacity 2 come and go as they should, up to the two that are left.
+// Whether three notifications at capacity 2 pass as they should, up to the two that remain.
 fn is_filled<R: Wait>(
     rt: &R,
     alloc: Global,
@@ -91,7 +73,7 @@ fn three_notes_at_capacity_two(rt: HostRuntime) -> Result<(), Fail> {
     if !is_filled(&rt, rt.alloc(), &feed, &mut offers, &mut takes) {
         return Err("a note went another way".into());
     }
-    let Ok(left) = finished(&rt, rt.alloc(), feed, offers, takes) else {
+    let Ok(left) = feed.rest(&rt, rt.alloc(), offers, takes) else {
         return Err("no memory at the end".into());
     };
     if !are_just(&left, 2, 3) {

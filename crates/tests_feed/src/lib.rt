@@ -1,4 +1,4 @@
-//! The tests of the feed: one thread that fills it and finishes it, and two threads that hand notifications over.
+//! The tests of the feed: one thread that fills it and finishes it, and two threads that pass notifications.
 #![tactic(auto)]
 
 #[cfg(test)]

@@ -1,7 +1,6 @@
 //! Two threads: one offers a thousand notifications, the other takes them.
 ghost use Rattle.std.specs.Prelude.{◌≡◌};
 
-use crate::full::finished;
 use sal_feed::{Feed, OfferSeat, TakeSeat};
 use sal_note::Note;
 use sal_rows::Rows;
@@ -13,10 +12,10 @@ use std::thread::Threads;
 
 const NOTES: u32 = 1000;
 
-// Far fewer than the notes, so that both threads wait for each other again and again.
+// Far fewer than the notifications, so that both threads wait for each other again and again.
 const CAPACITY: usize = 8;
 
-// Offers a note until there is room for it.
+// Offers a notification until there is room for it.
 fn offer<R: Wait>(rt: &R, feed: &Feed, seat: &mut OfferSeat, note: Note)
     requires { seat.old.feed ≡ feed.now.id }
     ensures { seat.new.feed ≡ seat.old.feed }
@@ -31,7 +30,7 @@ fn offer<R: Wait>(rt: &R, feed: &Feed, seat: &mut OfferSeat, note: Note)
     }
 }
 
-// Takes a note once there is one.
+// Takes a notification once there is one.
 fn take<R: Wait>(rt: &R, feed: &Feed, seat: &mut TakeSeat) -> u32
     requires { seat.old.feed ≡ feed.now.id }
     ensures { seat.new.feed ≡ seat.old.feed }
@@ -56,7 +55,7 @@ fn offer_all<R: Wait>(rt: &R, alloc: Global, feed: &Feed, mut seat: OfferSeat) -
     seat
 }
 
-// The seat, and how many notes came at their place in the order.
+// The seat, and how many notifications came in their order.
 fn take_all<R: Wait>(rt: &R, feed: &Feed, mut seat: TakeSeat) -> (TakeSeat, u32)
     requires { seat.feed ≡ feed.now.id }
     ensures { result.0.feed ≡ feed.now.id }
@@ -105,7 +104,7 @@ fn a_thousand_notes_from_thread_to_thread(rt: HostRuntime) -> Result<(), Fail> {
     if good != NOTES {
         return Err("a note came at another place".into());
     }
-    let Ok(left) = finished(&rt, rt.alloc(), feed, offers, takes) else {
+    let Ok(left) = feed.rest(&rt, rt.alloc(), offers, takes) else {
         return Err("no memory at the end".into());
     };
     if !left.items().is_empty() {

@@ -7,10 +7,10 @@ use sal_follow::Follower;
 use std::alloc::Global;
 use std::test::Fail;
 
-// How many bytes the first frame has.
+// The number of bytes of the first frame.
 const FIRST: usize = 51;
 
-// Whether the follower holds what it should between the two pieces: nothing before the first frame is there, then its commit.
+// Whether the follower has the right commit between the two pieces: none before the first frame is complete, then its commit.
 fn holds_front(follower: &Follower, cut: usize) -> bool {
     let version = if cut < FIRST {
         None

@@ -1,7 +1,7 @@
 //! Followers of the schema of a script.
 ghost use Rattle.std.specs.Prelude.{◌≡◌, ◌+◌, ◌<◌, ◌^◌, IfOk, length};
 ghost use Rattle.sal_follow.specs.Stream.{fresh};
-ghost use Rattle.tests_follow.specs.Fed.{IsFedBy};
+ghost use Rattle.sal_follow.specs.Fed.{IsFedBy};
 
 use sal_follow::{FollowFault, Follower, laws};
 use sal_prepare::own_schema::{OwnSchema, own_schema};
@@ -10,7 +10,7 @@ use sal_prepare::status::Status;
 use sal_types::Store;
 use std::alloc::Global;
 
-/// A follower of which nothing came yet, by the schema of the script's own modules.
+/// A follower at the start of a stream, by the schema of the script's own modules.
 pub(crate) fn follower_of(alloc: Global, script: &[u8]) -> Result<Follower, Status>
     ensures { IfOk result (IsFedBy 0) }
 {
@@ -21,7 +21,7 @@ pub(crate) fn follower_of(alloc: Global, script: &[u8]) -> Result<Follower, Stat
     Ok(follower)
 }
 
-/// Feeds a piece to a follower that has had so many bytes.
+/// Feeds a piece to a follower that has received at most `before` bytes.
 pub(crate) fn feed(
     follower: &mut Follower,
     before: u64,
@@ -35,7 +35,7 @@ pub(crate) fn feed(
     follower.feed(piece)
 }
 
-/// Whether the commit is held, with so many rows in the configuration, none in the other tree, and nothing of another frame.
+/// Whether the follower has the commit, with `rows` rows in the configuration, none in the other tree, and no byte of another frame.
 pub(crate) fn holds(follower: &Follower, commit: u64, rows: usize) -> bool {
     follower.version() == Some(commit)
         && follower.waiting() == 0

@@ -14,7 +14,7 @@ pub(crate) const SCRIPT: &str =
 pub(crate) const FRAMES: &str =
     "00000041\n{\"commit\":0,\"config\":[],\"operational\":[]}\n00000052\n{\"commit\":1,\"config\":[[[0,1],\"x\"]],\"operational\":[]}\n";
 
-/// What the leader exports.
+/// The leader's export.
 pub(crate) fn frames(alloc: Global) -> Result<Bytes, Status> {
     export_text(alloc, SCRIPT.as_bytes())
 }

@@ -7,10 +7,10 @@ use std::alloc::Global;
 use std::io;
 use std::test::Fail;
 
-// How many letters the leaf has.
+// The number of letters of the leaf.
 const LETTERS: usize = 16777216;
 
-// A script of one commit that puts so many letters into one leaf.
+// A script of one commit that puts this many letters into one leaf.
 fn script(alloc: Global, letters: usize) -> io::Result<String> {
     let mut text = String::new(alloc);
     text.push_str(

@@ -1,6 +1,6 @@
 //! A leader and a follower on two threads, joined by a channel of bytes that are cut anywhere.
 ghost use Rattle.std.specs.Prelude.{◌≡◌};
-ghost use Rattle.tests_follow.specs.Fed.{IsFedBy};
+ghost use Rattle.sal_follow.specs.Fed.{IsFedBy};
 
 use crate::follower::{feed, follower_of, holds};
 use crate::leader::{SCRIPT, frames};
@@ -14,7 +14,7 @@ use std::thread::Threads;
 
 type Piece = Vec<u8>;
 
-// So many pieces wait at most.
+// The largest number of waiting pieces.
 const WAITING: usize = 4;
 
 fn copied(alloc: Global, bytes: &[u8]) -> Option<Piece> {
@@ -53,7 +53,7 @@ fn lead<R: Wait>(rt: &R, alloc: Global, to: Sender<Piece, Global>) -> bool {
     }
 }
 
-// The follower: it takes what comes, to the end. It returns whether it holds the leader's last commit.
+// The follower: it takes all pieces, to the end. It returns whether it has the leader's last commit.
 fn follow<R: Wait>(rt: &R, mut follower: Follower, from: Receiver<Piece, Global>) -> bool
     requires { IsFedBy 0 follower }
 {

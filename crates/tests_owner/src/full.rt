@@ -1,4 +1,4 @@
-//! A log that is full.
+//! A full log.
 use sal_owner::{MAX_ENTRIES, OwnerBook, OwnerFault};
 use std::alloc::Global;
 use std::test::Fail;

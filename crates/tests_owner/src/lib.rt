@@ -1,4 +1,4 @@
-//! The tests of entity ownership: two threads that register and unregister one entity over and over, with a client's copy held against the
+//! The tests of entity ownership: two threads that register and unregister one entity over and over, with a client's copy compared with the
 //! log; and a full log.
 #![tactic(auto)]
 

@@ -29,29 +29,21 @@ fn switch(alloc: Global) -> Result<Entity, OwnerFault> {
     Ok(Entity { kind, id })
 }
 
-fn come<R: Wait>(
+// Comes as a candidate, or goes.
+fn move_by<R: Wait>(
     rt: &R,
     alloc: Global,
     owners: &Owners,
     seat: &mut OwnerSeat,
+    comes: bool,
 ) -> Result<(), OwnerFault>
     requires { seat.old.lock ≡ owners.now }
     ensures { Keeps owners.now seat.old seat.new }
 {
     let entity = switch(alloc)?;
-    owners.register(rt, alloc, seat, entity)
-}
-
-fn go<R: Wait>(
-    rt: &R,
-    alloc: Global,
-    owners: &Owners,
-    seat: &mut OwnerSeat,
-) -> Result<(), OwnerFault>
-    requires { seat.old.lock ≡ owners.now }
-    ensures { Keeps owners.now seat.old seat.new }
-{
-    let entity = switch(alloc)?;
+    if comes {
+        return owners.register(rt, alloc, seat, entity);
+    }
     owners.unregister(rt, alloc, seat, entity)
 }
 
@@ -60,8 +52,8 @@ fn one_round<R: Wait>(rt: &R, alloc: Global, owners: &Owners, seat: &mut OwnerSe
     requires { seat.old.lock ≡ owners.now }
     ensures { Keeps owners.now seat.old seat.new }
 {
-    let came = come(rt, alloc, owners, seat).is_ok();
-    let went = go(rt, alloc, owners, seat).is_ok();
+    let came = move_by(rt, alloc, owners, seat, true).is_ok();
+    let went = move_by(rt, alloc, owners, seat, false).is_ok();
     came && went
 }
 

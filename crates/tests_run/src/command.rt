@@ -12,7 +12,7 @@ use std::thread::{Threads, yield_now};
 // How often a client looks for the others.
 const LOOKS: u64 = 10_000_000;
 
-/// What the command is called with, and what it should write.
+/// The command's words and input, and the output that it should write.
 pub(crate) struct Texts {
     pub(crate) words: &'static [&'static str],
     pub(crate) input: &'static str,
@@ -33,7 +33,7 @@ fn source_of(alloc: Global, text: &str) -> Result<MemSource, Fail> {
     Ok(MemSource::new(bytes, Vec::new(alloc)))
 }
 
-/// How the command ends over the gate, and whether it wrote what it should.
+/// How the command ends over the gate, and whether its output is right.
 pub(crate) fn ended<R: Threads + Wait + Sync, G: Gate>(
     rt: &R,
     alloc: Global,
@@ -72,7 +72,7 @@ impl Missed {
     }
 }
 
-// Whether so many come while they are looked for.
+// Whether this many come during the looks.
 fn comes(come: &AtomicU64, clients: u64) -> bool {
     for _ in 0..LOOKS {
         if come.load(Ordering::SeqCst) == clients {

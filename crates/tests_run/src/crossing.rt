@@ -1,11 +1,11 @@
-//! Clients that wait for each other on their way: the two of a script, and the four of a load.
+//! Clients that wait for each other: the two of a script, and the four of a load.
 use crate::command::{Missed, Texts, ended};
 use sal_io::Gate;
 use sal_prepare::status::Status;
 use std::sync::atomic::{AtomicU64, Ordering};
 use std::test::Fail;
 
-// What is written depends on the order of the calls.
+// The output depends on the order of the calls.
 const SCRIPT: Texts = Texts {
     words: &["run"],
     input: r#"{ "clients": [

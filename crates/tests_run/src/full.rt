@@ -25,7 +25,7 @@ use std::thread::Threads;
 
 const NO_NODES: &str = "module nothing { namespace 'urn:nothing'; prefix n; }";
 
-// One client, which asks once to decide what is pending.
+// One client, which pumps once.
 const PUMP: &str = r#"{"clients":[{"steps":[["pump"]]}]}"#;
 
 fn no_nodes(alloc: Global) -> Result<Arc<Schema>, Fail> {
@@ -36,7 +36,7 @@ fn no_nodes(alloc: Global) -> Result<Arc<Schema>, Fail> {
     Ok(Arc::new(alloc, schema)?)
 }
 
-// What reads by the schema of the one domain, in its one version.
+// The readers of the schema of the one domain, in its one version.
 fn readers_of(alloc: Global, schema: &Arc<Schema>) -> Result<Readers, Fail>
     ensures { IfOk result (λ readers. readers ≡ (schema.now.value ∷ []) ∷ []) }
 {
@@ -64,7 +64,7 @@ fn opened(alloc: Global, schema: Arc<Schema>) -> Result<(Sal, Seat), Fail>
     Ok(Sal::open(alloc, devices, Rules::One)?)
 }
 
-// Leaves marks until the history is full.
+// Sets marks until the history is full.
 fn filled<R: Wait>(rt: &R, alloc: Global, sal: &Sal, mut seat: Seat) -> Result<(), Fail>
     requires { seat.lock ≡ sal.now }
 {
@@ -126,7 +126,7 @@ fn is_stopped<R: Threads + Wait + Sync>(
     Ok(is_refused(&runs))
 }
 
-// The same, where the client asks once to decide what is pending.
+// The same for a client that pumps once.
 fn pumps_in_vain<R: Threads + Wait + Sync>(
     rt: &R,
     alloc: Global,

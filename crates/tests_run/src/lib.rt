@@ -1,4 +1,4 @@
-//! The tests of clients on threads: that they run beside one another, and that a full history stops them.
+//! The tests of clients on threads: that they run at the same time, and that a full history stops them.
 #![tactic(auto)]
 
 #[cfg(test)]

@@ -1,4 +1,4 @@
--- What comes back of a seat that worked.
+-- The result of a seat that worked.
 use Rattle.std.specs.Prelude.{◌≡◌, ℕ}
 use Rattle.sal_turn.specs.Seats.{Place, TableId}
 use Rattle.sal_turn.specs.Views.{SameRights}

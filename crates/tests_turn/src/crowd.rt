@@ -13,7 +13,7 @@ use std::thread::{Threads, map_vec};
 
 const THREADS: u32 = 8;
 
-// Each round ends with the wake-up of the last sleepers, whom nobody else would wake.
+// Each round ends with the wake-up of the last sleepers, whom no other seat would wake.
 const ROUNDS: u32 = 200;
 
 const TURNS: u64 = 20;
@@ -59,7 +59,7 @@ fn take_part<R: Wait>(rt: &R, seated: Seated<'_>) {
     drop(seat);
 }
 
-// How many lines a round leaves.
+// The number of lines of a round.
 fn round<R: Threads + Wait + Sync>(rt: &R, alloc: Global) -> Result<usize, NoMemory> {
     let (turn, mut seat) = Turn::open(alloc, empty_tape(alloc, u64::MAX), THREADS)?;
     let mut crowd = Vec::new(alloc);

@@ -5,7 +5,7 @@ use std::io;
 use std::io::{Read, Write};
 use std::test::Fail;
 
-// A reader that fails at once, and a writer that takes some bytes a call and fails after so many flushes.
+// A reader that fails at once, and a writer that takes some bytes a call and fails after this many flushes.
 #[derive(Drop)]
 struct Broken;
 
@@ -67,7 +67,7 @@ fn is_written(takes: usize, flushes: u32) -> bool {
     write_all(&mut StdSink::new(Slow { takes, flushes }), b"text").is_ok()
 }
 
-// Each call is flushed; one that takes nothing is a fault.
+// Each call is flushed; one that takes no byte is a fault.
 #[test]
 fn a_slow_writer_is_flushed(rt: HostRuntime) -> Result<(), Fail> {
     if !is_written(1, 4) || !is_written(9, 1) || is_written(1, 3) || is_written(0, 9) {
@@ -76,7 +76,7 @@ fn a_slow_writer_is_flushed(rt: HostRuntime) -> Result<(), Fail> {
     Ok(())
 }
 
-// The streams of the system, asked for nothing.
+// The streams of the system, without a byte.
 #[test]
 fn standard_streams_serve(rt: HostRuntime) -> Result<(), Fail> {
     let mut input = StdSource::new(rt.stdin());

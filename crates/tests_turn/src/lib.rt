@@ -1,4 +1,4 @@
-//! The tests of the lowest crates: that the calls of the turn lock return, on one thread and on two, and what the value then holds; and of
+//! The tests of the lowest crates: that the calls of the turn lock return, on one thread and on two, and the value's entries afterwards; and of
 //! sources and sinks over readers and writers of std.
 #![tactic(auto)]
 

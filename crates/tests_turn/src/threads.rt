@@ -24,7 +24,7 @@ fn take_turns<R: Wait>(rt: &R, turn: &Turn<Tape>, mut seat: Seat<Tape>) -> Seat<
     seat
 }
 
-// The same of two seats, each on a thread of its own.
+// The same for two seats, each on a separate thread.
 fn both_take_turns<R: Threads + Wait + Sync>(
     rt: &R,
     turn: &Turn<Tape>,

@@ -1,4 +1,4 @@
-//! The data broker in a Rust program, over `libmdsal.a`.
+//! The data broker as a Rust crate, over `libmdsal.a`.
 //!
 //! ```no_run
 //! let mut broker = mdsal::Broker::open(r#"{"config":{"plain:box":{"a":"x"}}}"#)?;
@@ -7,8 +7,8 @@
 //! # Ok::<(), mdsal::Error>(())
 //! ```
 //!
-//! A step that the broker refuses has a reply, which begins with `refused`. What has none is an [`Error`]. A [`Broker`] may go to another
-//! thread; to share it, put it behind a `Mutex`. It is closed when it is dropped.
+//! A step that the broker refuses has a reply, which starts with `refused`. A call without a reply returns an [`Error`]. A [`Broker`] may move
+//! to another thread; to share it, use a `Mutex`. It is closed when it is dropped.
 use std::fmt;
 use std::ptr;
 
@@ -30,27 +30,27 @@ unsafe extern "C" {
 #[derive(Clone, Debug, PartialEq, Eq)]
 #[non_exhaustive]
 pub enum Error {
-    /// The bytes are no script, or it has clients or an order; the line of the command's status.
+    /// The bytes are not a script, or it has clients or an order; with the line of the command's status.
     BadScript(String),
-    /// The modules build no schema; the line of the command's status.
+    /// The modules do not give a schema; with the line of the command's status.
     BadSchema(String),
-    /// An opening tree is no data of the schema, or breaks a rule of it; the line of the command's status.
+    /// An opening tree is not data of the schema, or breaks a rule of it; with the line of the command's status.
     BadOpening(String),
     /// Memory ran out, and the step was not made. The client may be lost.
     NoMemory,
-    /// The broker was broken by an earlier step.
+    /// The broker was closed when an earlier step broke it.
     Closed,
-    /// The bytes are no step.
+    /// The bytes are not a step.
     BadStep,
     /// The client's number is 65,536 or more.
     BadClient,
     /// The log has 1,000,000 shared calls.
     Full,
-    /// An earlier step of this client found no memory.
+    /// Memory ran out in an earlier step of this client.
     Lost,
-    /// The step was made; the report has its reply.
+    /// The step was made, but memory ran out for its reply; the report has it.
     Untold,
-    /// Memory ran out behind a call that is in the log, and the broker is closed.
+    /// Memory ran out after a call was added to the log, and the broker is closed.
     Broken,
     /// A status that this crate does not know.
     Other(u32),
@@ -101,8 +101,8 @@ pub struct Broker {
     handle: Handle,
 }
 
-// SAFETY: that what a handle holds may go to another thread is proved (`handles_may_move` of crates/mdsal_c), and `&mut self` gives one
-// call at a time.
+// SAFETY: it is proved that the content of a handle may move to another thread (`handles_may_move` of crates/mdsal_c), and `&mut self`
+// allows one call at a time.
 unsafe impl Send for Broker {}
 
 impl Broker {
@@ -160,7 +160,7 @@ impl Broker {
 
 impl Drop for Broker {
     fn drop(&mut self) {
-        // SAFETY: no call comes behind it.
+        // SAFETY: it is the last call.
         unsafe { mdsal_close(&mut self.handle) }
     }
 }

@@ -11,7 +11,7 @@ ghost use Rattle.sal_rows.specs.Search.{IsFound};
 use crate::rows::Rows;
 use sal_types::{Cell, NoMemory, Path, Row};
 
-/// The cell that is to stand at a path, or none.
+/// The new cell of a path, or none.
 #[derive(Debug, Drop)]
 pub struct Patch {
     pub path: Path,
@@ -19,7 +19,7 @@ pub struct Patch {
 }
 
 impl Rows {
-    /// Sets each cell in its place, one after another. All memory is taken first: where there is none, nothing has changed.
+    /// Sets each cell, one after another. All memory is allocated first: if it runs out, nothing has changed.
     pub fn patch(&mut self, patches: Vec<Patch>) -> Result<(), NoMemory>
         ensures ok { OnOk result (self.new ≡ patched self.old patches.items) }
         ensures err { OnErr result (self.new ≡ self.old) }
@@ -30,7 +30,7 @@ impl Rows {
     }
 }
 
-// Sets each cell in its place. There is room for all that may come.
+// Sets each cell. The list has room for all new rows.
 fn patch_all(rows: &mut Vec<Row>, patches: Vec<Patch>)
     requires order { IsAscending rows.old.items }
     requires room { vec_len rows.old + vec_len patches ≤ vec_capacity rows.old }
@@ -42,7 +42,7 @@ fn patch_all(rows: &mut Vec<Row>, patches: Vec<Patch>)
     }
 }
 
-// Sets a cell in its place.
+// Sets a cell.
 fn patch_one(rows: &mut Vec<Row>, patch: Patch)
     requires order { IsAscending rows.old.items }
     requires room { vec_len rows.old < vec_capacity rows.old }
@@ -58,7 +58,7 @@ fn patch_one(rows: &mut Vec<Row>, patch: Patch)
     }
 }
 
-// Takes out the row at the path, if one stands there.
+// Removes the row at the path, if there is one.
 fn take_out(rows: &mut Vec<Row>, path: &Path)
     requires order { IsAscending rows.old.items }
     ensures rows { rows.new.items ≡ filter (λ row. not (path_eq path.now row.path)) rows.old.items }
@@ -73,7 +73,7 @@ fn take_out(rows: &mut Vec<Row>, path: &Path)
     }
 }
 
-// Puts the row in its place, over one that stands there.
+// Inserts the row, or replaces the row at its path.
 fn put_in(rows: &mut Vec<Row>, row: Row)
     requires order { IsAscending rows.old.items }
     requires room { vec_len rows.old < vec_capacity rows.old }
@@ -87,7 +87,7 @@ fn put_in(rows: &mut Vec<Row>, row: Row)
     }
 }
 
-// Where the path stands among the rows, or the place for it. By halves.
+// The index of the path among the rows, or the index where it would be inserted. A binary search.
 fn search(rows: &[Row], path: &Path) -> Result<usize, usize>
     requires { IsAscending rows.now }
     ensures inside { IsSearchInRange result (length rows.now) }

@@ -1,5 +1,5 @@
 -- The follower has had so many bytes.
-use Rattle.examples_epochs.specs.Fed.{IsFedBy}
+use Rattle.sal_follow.specs.Fed.{IsFedBy}
 use Rattle.examples_epochs.proofs.standby.follow.Given as goal
 
 abbrev pub invariant-loop : goal.invariant-loop

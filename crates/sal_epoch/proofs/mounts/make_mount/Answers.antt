@@ -5,7 +5,8 @@ use Rattle.sal_mount.specs.declared.call.MountCall.TheVariants.{Mount}
 use Rattle.sal_mount.specs.declared.call.MountFault.{MountFault}
 use Rattle.sal_mount.specs.declared.call.MountFault.TheVariants.{NoDomain, DeviceUsed, MountTaken}
 use Rattle.sal_mount.specs.declared.call.MountReply.TheVariants.{Refused}
-use Rattle.sal_epoch.proofs.Mounting.{fails_as, made_if_refused, mounted_listed, on_ok, unmoved}
+use Rattle.sal_history.proofs.MountCalls.{made_if_refused}
+use Rattle.sal_epoch.proofs.Mounting.{fails_as, mounted_listed, on_ok, unmoved}
 use Rattle.sal_epoch.proofs.mounts.make_mount.Goals as goal
 
 pub returns-in-Ok-clause-follows : goal.returns-in-Ok-clause-follows

@@ -3,7 +3,8 @@ use Rattle.std.proofs.Common.{◌≡◌, List, length, sym, subst, arith}
 use Rattle.std.proofs.lemmas.Grind.{common_steps}
 use Rattle.sal_history.specs.declared.call.Entry.{Entry}
 use Rattle.sal_epoch.specs.declared.mounts.Mount.{Mount}
-use Rattle.sal_epoch.specs.Mounts.{Follows, mounts_in}
+use Rattle.sal_history.specs.MountCalls.{mounts_in}
+use Rattle.sal_epoch.specs.Mounts.{Follows}
 use Rattle.sal_epoch.proofs.Mounting.{left-so, nothing_listed}
 use Rattle.sal_epoch.proofs.mounts.mounts_of.Goals as goal
 

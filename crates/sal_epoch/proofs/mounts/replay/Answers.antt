@@ -2,7 +2,8 @@ use Rattle.std.proofs.Common.{List, refl, subst, sym}
 use Rattle.sal_mount.specs.declared.call.MountCall.{MountCall}
 use Rattle.sal_history.specs.declared.call.Call.{Call}
 use Rattle.sal_history.specs.Services.{mount_call}
-use Rattle.sal_epoch.specs.Mounts.{Follows, with_call}
+use Rattle.sal_history.specs.MountCalls.{with_call}
+use Rattle.sal_epoch.specs.Mounts.{Follows}
 use Rattle.sal_epoch.proofs.Mounting.{unmoved}
 use Rattle.sal_epoch.proofs.mounts.replay.Goals as goal
 

@@ -1,6 +1,7 @@
 -- The list follows the calls so far.
 use Rattle.std.proofs.Common.{◌≡◌, take}
-use Rattle.sal_epoch.specs.Mounts.{Follows, mounts_in}
+use Rattle.sal_history.specs.MountCalls.{mounts_in}
+use Rattle.sal_epoch.specs.Mounts.{Follows}
 use Rattle.sal_epoch.proofs.mounts.replay_all.Given as goal
 
 abbrev pub invariant-loop-entry : goal.invariant-loop-entry

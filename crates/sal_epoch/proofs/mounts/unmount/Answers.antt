@@ -1,7 +1,8 @@
 use Rattle.std.proofs.Common.{refl}
 use Rattle.sal_mount.specs.declared.call.MountCall.TheVariants.{Unmount}
 use Rattle.sal_mount.specs.declared.call.MountReply.TheVariants.{Accepted, Refused}
-use Rattle.sal_epoch.proofs.Mounting.{made_if_refused, unmoved}
+use Rattle.sal_history.proofs.MountCalls.{made_if_refused}
+use Rattle.sal_epoch.proofs.Mounting.{unmoved}
 use Rattle.sal_epoch.proofs.mounts.unmount.Goals as goal
 
 pub returns-in-Ok-clause-follows : goal.returns-in-Ok-clause-follows

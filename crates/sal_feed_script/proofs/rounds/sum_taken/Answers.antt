@@ -9,4 +9,4 @@ returns g c =
     let offered = halves.ensures.offered in
     let taken = halves.ensures.taken in
     sym taken.sum
-    ∙ all_taken c.args.notes halves.result.0.next halves.result.1.seat.taken c.in_ok-finished.field-0 (sym offered.offered ∙ c.in_ok-finished.ensures) offered.within (taken.count ∙ halves.ensures.all)
+    ∙ all_taken c.args.notes halves.result.0.next halves.result.1.seat.taken c.in_ok-rest.field-0 (sym offered.offered ∙ c.in_ok-rest.ensures) offered.within (taken.count ∙ halves.ensures.all)

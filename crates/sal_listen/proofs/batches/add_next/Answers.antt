@@ -1,7 +1,7 @@
 use Rattle.std.proofs.Common.{ap, sym, ◌∙◌}
 use Rattle.sal_tree.specs.Rows.{rows_of}
 use Rattle.sal_rows.specs.Apply.{apply_ops}
-use Rattle.sal_listen.proofs.Given.{next-tree}
+use Rattle.sal_graft.proofs.KeptLemmas.{next-tree}
 use Rattle.sal_listen.proofs.batches.add_next.Goals as goal
 
 pub add_part-requires-clause-made : goal.add_part-requires-clause-made

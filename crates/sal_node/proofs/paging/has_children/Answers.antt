@@ -33,8 +33,15 @@ by_sheets : (ss : List (Arc Sheet Global)) (n : ℕ) (b : Bool) → AreSheets ss
 by_sheets [] n b h l e = ap not e ∙ none_zero n l
 by_sheets (s ∷ ss) n b h l e = ap not e ∙ more n (omega arith) ∙ some_page s.value.pages.items (sheeted ss) h.0.0 h.0.2
 
+by_few : (cs : List (Arc Child Global)) (n : ℕ) (b : Bool) → n ≡ length cs → b ≡ (n == 0) → not b ≡ is_filled None (grove (row_of cs))
+by_few [] n b l e = ap not e ∙ none_zero n l
+by_few (c ∷ cs) n b l e = ap not e ∙ more n (omega arith)
+
+pub returns-in-Few : goal.returns-in-Few
+returns-in-Few c = by_few c.in-Few.children.items c.in-Few.children.len c.is_empty.result c.in-Few.children.ok.0 c.is_empty.ensures ∙ sym (ap (λ k. is_filled None (grove (paged k))) c.in-Few.is)
+
 pub returns-in-Pages : goal.returns-in-Pages
-returns-in-Pages c = by_pages c.in-Pages.pages.items c.in-Pages.pages.len c.is_empty.result (subst (λ k. ArePaged k) c.in-Pages.is c.requires).0 c.in-Pages.pages.ok.0 c.is_empty.ensures ∙ sym (ap (λ k. is_filled None (grove (paged k))) c.in-Pages.is)
+returns-in-Pages c = by_pages c.in-Pages.pages.items c.in-Pages.pages.len c.is_empty-in-Pages.result (subst (λ k. ArePaged k) c.in-Pages.is c.requires).0 c.in-Pages.pages.ok.0 c.is_empty-in-Pages.ensures ∙ sym (ap (λ k. is_filled None (grove (paged k))) c.in-Pages.is)
 
 pub returns-in-Sheets : goal.returns-in-Sheets
 returns-in-Sheets c = by_sheets c.in-Sheets.sheets.items c.in-Sheets.sheets.len c.is_empty-in-Sheets.result (subst (λ k. ArePaged k) c.in-Sheets.is c.requires) c.in-Sheets.sheets.ok.0 c.is_empty-in-Sheets.ensures ∙ sym (ap (λ k. is_filled None (grove (paged k))) c.in-Sheets.is)

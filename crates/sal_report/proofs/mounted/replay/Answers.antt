@@ -2,7 +2,8 @@ use Rattle.std.proofs.Common.{List, subst, sym}
 use Rattle.sal_mount.specs.declared.call.MountCall.{MountCall}
 use Rattle.sal_history.specs.declared.call.Call.{Call}
 use Rattle.sal_history.specs.Services.{mount_call}
-use Rattle.sal_report.specs.Replayed.{Follows, with_call}
+use Rattle.sal_history.specs.MountCalls.{with_call}
+use Rattle.sal_report.specs.Replayed.{Follows}
 use Rattle.sal_report.proofs.mounted.replay.Goals as goal
 
 pub returns-in-Unmount-clause-follows : goal.returns-in-Unmount-clause-follows

@@ -6,7 +6,8 @@ use Rattle.sal_types.proofs.seq.Seq.TheSendSync as Seq
 use Rattle.sal_broker.specs.Seats.{inside}
 use Rattle.sal_run.specs.declared.clients.SeatedRun.{SeatedRun}
 use Rattle.sal_run.specs.Worked.{Worked}
-use Rattle.sal_run.proofs.Sendable.{SeatedRun-send, Sal-sync, Readers-sync, ScriptStep-sync}
+use Rattle.sal_broker.proofs.Sendable.{Sal-sync}
+use Rattle.sal_run.proofs.Sendable.{SeatedRun-send, Readers-sync, ScriptStep-sync}
 use Rattle.sal_run.proofs.clients.run_clients.Goals as goal
 
 pub for_each_mut-requires-send-T : goal.for_each_mut-requires-send-T

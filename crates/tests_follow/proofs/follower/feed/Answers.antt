@@ -1,6 +1,6 @@
 -- The bytes before, and then those of the piece.
 use Rattle.std.proofs.Common.{length}
-use Rattle.tests_follow.proofs.Counted.{has_room, more_fed}
+use Rattle.sal_follow.proofs.Counted.{has_room, more_fed}
 use Rattle.tests_follow.proofs.follower.feed.Goals as goal
 
 pub feed-requires : goal.feed-requires

@@ -1,7 +1,7 @@
 -- Nothing came yet.
 use Rattle.std.proofs.Common.{ap}
 use Rattle.sal_follow.specs.States.{Following}
-use Rattle.tests_follow.proofs.Counted.{new_fed}
+use Rattle.sal_follow.proofs.Counted.{new_fed}
 use Rattle.tests_follow.proofs.follower.follower_of.Goals as goal
 
 pub returns : goal.returns

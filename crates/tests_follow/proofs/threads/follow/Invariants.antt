@@ -1,5 +1,5 @@
 -- The follower has had so many bytes.
-use Rattle.tests_follow.specs.Fed.{IsFedBy}
+use Rattle.sal_follow.specs.Fed.{IsFedBy}
 use Rattle.tests_follow.proofs.threads.follow.Given as goal
 
 abbrev pub invariant-loop : goal.invariant-loop

@@ -14,4 +14,4 @@ returns-clause-turn c =
     let e = c.leave.ensures in
     let added = subst (λ (h : Holding). OneMoreAtMost h.view h.found h.hub) (sym is) c.requires.added in
     subst (λ (h : Holding). TurnOf h.view h.view.number h.found h.hub w) is
-    (left_turn v w (hub_with v inner.found) inner.value.hub (is_some_of v.ground c.held.invariant.0) c.held.invariant.1 c.held.invariant.2 e.same.1 added e.seen e.own)
+    (left_turn v w (hub_with v inner.found) inner.value.hub.value (is_some_of v.ground c.held.invariant.0) c.held.invariant.1 c.held.invariant.2 e.same.1 added e.seen e.own)

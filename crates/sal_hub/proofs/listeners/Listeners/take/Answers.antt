@@ -23,34 +23,22 @@ tell-requires-clause-high c =
     let high : c.args.id.number ≤ length c.args.self.now.list.items = number_within (known_of c.args.journal.now c.args.pipeline.now) c.args.self.now c.requires.listeners c.args.id c.requires.token in
     omega (arith, high, c.number-number.ensures)
 
-pub returns-in-Ok-clause-kept : goal.returns-in-Ok-clause-kept
-returns-in-Ok-clause-kept c =
-    quiet_kept c.args.journal.now c.add.new.self c.args.pipeline.now c.requires.kept c.args.client (Take c.number-number.result) c.in-Ok.ensures.log refl refl refl refl (λ k. refl) refl c.in-Ok.ensures.marks
-
-pub returns-in-Ok-clause-listeners : goal.returns-in-Ok-clause-listeners
-returns-in-Ok-clause-listeners c =
-    let j = c.args.journal.now in
-    let ls = c.args.self.now in
-    let log : c.add.new.self.log ≡ jotted j.log c.args.client (Take c.args.id.number) = c.in-Ok.ensures.log ∙ ap (λ n. jotted j.log c.args.client (Take n)) c.number-number.ensures in
-    let gone : has_in ls.list.items c.args.client (c.args.id.number - 1) ≡ false = ap (λ n. has_in ls.list.items c.args.client (n - 1)) (sym c.number-number.ensures) ∙ sym c.has.ensures ∙ c.if-not-has.true in
-    untold_listeners j c.add.new.self c.args.pipeline.now c.requires.kept ls ls c.requires.listeners c.args.client c.args.id c.requires.token log gone
-
-pub returns-in-Ok-clause-answer : goal.returns-in-Ok-clause-answer
-returns-in-Ok-clause-answer c =
+pub returns-in-Ok : goal.returns-in-Ok
+returns-in-Ok c =
     let j = c.args.journal.now in
     let p = c.args.pipeline.now in
     let ls = c.args.self.now in
     let log : c.add.new.self.log ≡ jotted j.log c.args.client (Take c.args.id.number) = c.in-Ok.ensures.log ∙ ap (λ n. jotted j.log c.args.client (Take n)) c.number-number.ensures in
     let gone : has_in ls.list.items c.args.client (c.args.id.number - 1) ≡ false = ap (λ n. has_in ls.list.items c.args.client (n - 1)) (sym c.number-number.ensures) ∙ sym c.has.ensures ∙ c.if-not-has.true in
-    subst (λ n. Made (known_of j p) (known_of c.add.new.self p) (entry_of (known_of j p) c.args.client (Take c.args.id.number)) (Refused (NoListener n))) (sym c.number-number.ensures)
-    (untold_answer j c.add.new.self p c.requires.kept ls ls c.requires.listeners c.args.client c.args.id c.requires.token log gone c.requires.room)
+    record {
+      kept = quiet_kept j c.add.new.self p c.requires.kept c.args.client (Take c.number-number.result) c.in-Ok.ensures.log refl refl refl refl (λ k. refl) refl c.in-Ok.ensures.marks;
+      listeners = untold_listeners j c.add.new.self p c.requires.kept ls ls c.requires.listeners c.args.client c.args.id c.requires.token log gone;
+      answer = subst (λ n. Made (known_of j p) (known_of c.add.new.self p) (entry_of (known_of j p) c.args.client (Take c.args.id.number)) (Refused (NoListener n))) (sym c.number-number.ensures)
+          (untold_answer j c.add.new.self p c.requires.kept ls ls c.requires.listeners c.args.client c.args.id c.requires.token log gone c.requires.room);
+    }
 
-pub returns-in-Ok-tell-clause-kept : goal.returns-in-Ok-tell-clause-kept
-returns-in-Ok-tell-clause-kept c =
-    quiet_kept c.args.journal.now c.tell.new.journal c.args.pipeline.now c.requires.kept c.args.client (Take c.number-number.result) c.in-Ok-tell.ensures.log refl refl refl refl (λ k. refl) refl c.in-Ok-tell.ensures.marks
-
-pub returns-in-Ok-tell-clause-listeners : goal.returns-in-Ok-tell-clause-listeners
-returns-in-Ok-tell-clause-listeners c =
+pub returns-in-Ok-tell : goal.returns-in-Ok-tell
+returns-in-Ok-tell c =
     let j = c.args.journal.now in
     let p = c.args.pipeline.now in
     let ls = c.args.self.now in
@@ -58,20 +46,12 @@ returns-in-Ok-tell-clause-listeners c =
     let b = c.in-Ok-tell.batch in
     let log : c.tell.new.journal.log ≡ jotted j.log c.args.client (Take c.args.id.number) = done.log ∙ ap (λ n. jotted j.log c.args.client (Take n)) c.number-number.ensures in
     let own : has_in ls.list.items c.args.client (c.args.id.number - 1) ≡ true = ap (λ n. has_in ls.list.items c.args.client (n - 1)) (sym c.number-number.ensures) ∙ sym c.has.ensures ∙ c.if-not-has.false in
-    told_now j c.tell.new.journal p c.requires.kept ls c.tell.new.self c.requires.listeners c.args.client c.args.id c.requires.token log own
-    b (subst (λ n. IsBatchFor p.domains.items ls.list.items (n - 1) b) c.number-number.ensures done.batch) (subst (λ n. Tells ls (n - 1) b.to c.tell.new.self) c.number-number.ensures done.told)
-
-pub returns-in-Ok-tell-clause-answer : goal.returns-in-Ok-tell-clause-answer
-returns-in-Ok-tell-clause-answer c =
-    let j = c.args.journal.now in
-    let p = c.args.pipeline.now in
-    let ls = c.args.self.now in
-    let done = c.in-Ok-tell.ensures in
-    let b = c.in-Ok-tell.batch in
-    let log : c.tell.new.journal.log ≡ jotted j.log c.args.client (Take c.args.id.number) = done.log ∙ ap (λ n. jotted j.log c.args.client (Take n)) c.number-number.ensures in
-    let own : has_in ls.list.items c.args.client (c.args.id.number - 1) ≡ true = ap (λ n. has_in ls.list.items c.args.client (n - 1)) (sym c.number-number.ensures) ∙ sym c.has.ensures ∙ c.if-not-has.false in
-    told_answer j c.tell.new.journal p c.requires.kept ls c.tell.new.self c.requires.listeners c.args.client c.args.id c.requires.token log own
-    b (subst (λ n. IsBatchFor p.domains.items ls.list.items (n - 1) b) c.number-number.ensures done.batch) c.requires.room
+    let given = subst (λ n. IsBatchFor p.domains.items ls.list.items (n - 1) b) c.number-number.ensures done.batch in
+    record {
+      kept = quiet_kept j c.tell.new.journal p c.requires.kept c.args.client (Take c.number-number.result) done.log refl refl refl refl (λ k. refl) refl done.marks;
+      listeners = told_now j c.tell.new.journal p c.requires.kept ls c.tell.new.self c.requires.listeners c.args.client c.args.id c.requires.token log own b given (subst (λ n. Tells ls (n - 1) b.to c.tell.new.self) c.number-number.ensures done.told);
+      answer = told_answer j c.tell.new.journal p c.requires.kept ls c.tell.new.self c.requires.listeners c.args.client c.args.id c.requires.token log own b given c.requires.room;
+    }
 
 pub returns-in-Err-tell-clause-listeners : goal.returns-in-Err-tell-clause-listeners
 returns-in-Err-tell-clause-listeners c =

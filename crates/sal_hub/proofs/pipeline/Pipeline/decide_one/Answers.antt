@@ -1,5 +1,5 @@
 -- One more is decided, by the phases of a commit.
-use Rattle.std.proofs.Common.{◌≡◌, ◌<◌, ◌+◌, length, List, ℕ, Option, [], ◌∷◌, ◌++◌, subst, sym, ap, ◌∙◌, arith}
+use Rattle.std.proofs.Common.{◌≡◌, ◌<◌, ◌+◌, length, List, ℕ, Option, [], ◌∷◌, ◌++◌, subst, sym, ap, ◌∙◌, arith, rules}
 use Rattle.std.specs.Vec.{with_items}
 use Rattle.std.proofs.lemmas.Grind.{common_steps}
 use Rattle.std.proofs.lemmas.List.{with_items_is}
@@ -48,8 +48,8 @@ note_failure-requires c =
     subst (λ (fs : List (Option ℕ)). IsWithin (length fs) c.index-submission.result.now.chain) (sym c.deref_mut.ensures.value)
     (within_here c.args.self.now c.requires.kept c.requires.sound.0 c.requires.sound.1 c.args.index c.requires.next c.requires.given c.index-submission.result.now c.index-submission.ensures)
 
-pub returns-clause-ok : goal.returns-clause-ok
-returns-clause-ok c =
+pub returns : goal.returns
+returns c =
     let p = c.args.self.now in
     let sub = c.index-submission.result.now in
     let d = c.index_mut-domain.result.now in
@@ -60,21 +60,13 @@ returns-clause-ok c =
     ap length noted ∙ length-after c.deref_mut.result.now sub.chain (c.args.index + 1) c.is_done-done.result ∙ c.deref_mut.ensures.len in
     let fs : (with_items p.failures c.note_failure.new.failures).items ≡ failures_after p.failures.items sub.chain (length p.outcomes.items + 1) (is_done c.in_ok-outcome.outcome) =
     with_items_is p.failures c.note_failure.new.failures long ∙ noted ∙ (λ i. failures_after (c.deref_mut.ensures.value i) sub.chain (c.requires.next i + 1) (c.is_done-done.ensures i)) in
-    λ ss sound.
-    decided_now p c.requires.kept ss sound c.args.index c.requires.next c.requires.given sub c.index-submission.ensures d c.index_mut-domain.ensures.value
-    c.in_ok-outcome.outcome (c.in_ok-outcome.ensures.outcome ∙ ap (λ (f : Option ℕ). decide f d sub) failed) c.decide.new.domain c.in_ok-outcome.ensures.decided c.push.new.self.items os (with_items p.failures c.note_failure.new.failures).items fs
-
-pub returns-clause-grown : goal.returns-clause-grown
-returns-clause-grown c =
-    let p = c.args.self.now in
-    let sub = c.index-submission.result.now in
-    let d = c.index_mut-domain.result.now in
-    let os : c.push.new.self.items ≡ p.outcomes.items ++ c.in_ok-outcome.outcome ∷ [] = grind (arith, common_steps, c.push.ensures.items, c.unwrap.ensures, c.reserve.ensures.items) in
-    let failed : c.failure_of-failed.result ≡ failure_of p.failures.items sub.chain = c.failure_of-failed.ensures ∙ ap (λ (fs : List (Option ℕ)). failure_of fs sub.chain) c.deref.ensures.value in
-    let noted : c.note_failure.new.failures ≡ failures_after c.deref_mut.result.now sub.chain (c.args.index + 1) c.is_done-done.result = c.note_failure.ensures in
-    let long : length c.note_failure.new.failures ≡ p.failures.len =
-    ap length noted ∙ length-after c.deref_mut.result.now sub.chain (c.args.index + 1) c.is_done-done.result ∙ c.deref_mut.ensures.len in
-    let fs : (with_items p.failures c.note_failure.new.failures).items ≡ failures_after p.failures.items sub.chain (length p.outcomes.items + 1) (is_done c.in_ok-outcome.outcome) =
-    with_items_is p.failures c.note_failure.new.failures long ∙ noted ∙ (λ i. failures_after (c.deref_mut.ensures.value i) sub.chain (c.requires.next i + 1) (c.is_done-done.ensures i)) in
-    grown_now p c.requires.kept c.requires.sound.0 c.requires.sound.1 c.args.index c.requires.next c.requires.given sub c.index-submission.ensures d c.index_mut-domain.ensures.value
-    c.in_ok-outcome.outcome (c.in_ok-outcome.ensures.outcome ∙ ap (λ (f : Option ℕ). decide f d sub) failed) c.decide.new.domain c.in_ok-outcome.ensures.decided c.push.new.self.items os (with_items p.failures c.note_failure.new.failures).items fs
+    let outcome : c.in_ok-outcome.outcome ≡ decide (failure_of p.failures.items sub.chain) d sub = c.in_ok-outcome.ensures.outcome ∙ ap (λ (f : Option ℕ). decide f d sub) failed in
+    record {
+      kept = search rules;
+      ok = λ ss sound.
+          decided_now p c.requires.kept ss sound c.args.index c.requires.next c.requires.given sub c.index-submission.ensures d c.index_mut-domain.ensures.value
+          c.in_ok-outcome.outcome outcome c.decide.new.domain c.in_ok-outcome.ensures.decided c.push.new.self.items os (with_items p.failures c.note_failure.new.failures).items fs;
+      count = search rules;
+      grown = grown_now p c.requires.kept c.requires.sound.0 c.requires.sound.1 c.args.index c.requires.next c.requires.given sub c.index-submission.ensures d c.index_mut-domain.ensures.value
+          c.in_ok-outcome.outcome outcome c.decide.new.domain c.in_ok-outcome.ensures.decided c.push.new.self.items os (with_items p.failures c.note_failure.new.failures).items fs;
+    }

@@ -1,0 +1,100 @@
+-- A client may go to another thread, and patterns may be shared with one.
+use denote.Param.Send.{IsSend, IsSync, sendable}
+use Rattle.std.proofs.Crossing.{crosses}
+use Rattle.std.proofs.MapsCrossing as maps
+use Rattle.sal_types.proofs.seq.Seq.TheSendSync as Seq-here
+use Rattle.sal_hub.proofs.chain.Chain.TheSendSync as Chain-here
+use Rattle.sal_hub.proofs.receipt.Receipt.TheSendSync as Receipt-here
+use Rattle.sal_hub.proofs.call_id.CallId.TheSendSync as CallId-here
+use Rattle.sal_script.proofs.reply.StepReply.TheSendSync as StepReply-here
+use Rattle.sal_client.proofs.follower.Follower.TheSendSync as Follower-here
+use Rattle.sal_client.proofs.slots.Slot.TheSendSync as Slot-here
+use Rattle.sal_client.proofs.rpcs.Invocation.TheSendSync as Invocation-here
+use Rattle.regex_class.proofs.Class.TheSendSync as Class-here
+use Rattle.regex_hir.proofs.look.Look.TheSendSync as Look-here
+use Rattle.regex_dfa.proofs.dfa.Dfa.TheSendSync as Dfa-here
+use Rattle.regex_literal.proofs.byte_set.ByteSet.TheSendSync as ByteSet-here
+use Rattle.regex_literal.proofs.prefilter.Prefilter.TheSendSync as Prefilter-here
+use Rattle.regex_literal.proofs.ladder.Ladder.TheSendSync as Ladder-here
+use Rattle.regex_literal.proofs.caseless.Caseless.TheSendSync as Caseless-here
+use Rattle.regex_extract.proofs.frames.Frame.TheSendSync as Frame-here
+use Rattle.regex_meta.proofs.plan.Role.TheSendSync as Role-here
+use Rattle.sal_client.specs.contracts.client.ClientState as ClientState
+use Rattle.sal_client.specs.contracts.run.ClientRun as ClientRun
+use Rattle.regex_hir.specs.contracts.hir.Hir as Hir
+use Rattle.regex_hir.proofs.hir.Hir.TheLaws.TheKnot as Hir-knot
+use Rattle.regex_meta.specs.contracts.plan.Plan as Plan_of
+use Rattle.regex_meta.specs.contracts.plan.Plans as Plans
+use Rattle.regex_meta.specs.contracts.signs.Signs as Signs
+use Rattle.regex_meta.specs.contracts.program.Program as Program
+use Rattle.regex.specs.contracts.pattern.Pattern as RegexPattern
+use Rattle.regex.specs.contracts.string.regex.Regex as Regex
+use Rattle.sal_json.specs.contracts.patterns.Whole as Whole
+use Rattle.sal_json.specs.contracts.patterns.Patterns as Patterns
+use Rattle.sal_hub.proofs.Sendable.{Tx-send}
+
+ClientState-field_send : IsSend (ClientState.the_field).row
+ClientState-field_send = search (Slot-here.the_send, Tx-send, Receipt-here.the_send, Chain-here.the_send, Follower-here.the_send, CallId-here.the_send, Invocation-here.the_send, StepReply-here.the_send, crosses, maps.crosses, sendable) depth 40 fits 20000
+
+pub ClientRun-field_send : IsSend (ClientRun.the_field).row
+ClientRun-field_send = search (ClientState-field_send, crosses, maps.crosses, sendable) depth 40 fits 20000
+
+Hir-sync : IsSync Hir.the_row
+Hir-sync = search (Hir-knot.crosses, Class-here.the_field_sync, Look-here.the_field_sync, crosses, maps.crosses, sendable) depth 40 fits 20000
+
+Hir-send : IsSend Hir.the_row
+Hir-send = search (Hir-knot.crosses, Class-here.the_field_send, Look-here.the_field_send, crosses, maps.crosses, sendable) depth 40 fits 20000
+
+Hir-field_sync : IsSync (Hir.the_field).row
+Hir-field_sync = search (Hir-knot.crosses, Class-here.the_field_sync, Look-here.the_field_sync, crosses, maps.crosses, sendable) depth 40 fits 20000
+
+Hir-field_send : IsSend (Hir.the_field).row
+Hir-field_send = search (Hir-knot.crosses, Class-here.the_field_send, Look-here.the_field_send, crosses, maps.crosses, sendable) depth 40 fits 20000
+
+Plan_of-sync : IsSync Plan_of.the_row
+Plan_of-sync = search (Role-here.the_field_sync, Prefilter-here.the_sync, Frame-here.the_sync, Hir-sync, Ladder-here.the_field_sync, crosses, maps.crosses, sendable) depth 40 fits 20000
+
+Plan_of-send : IsSend Plan_of.the_row
+Plan_of-send = search (Role-here.the_field_send, Prefilter-here.the_send, Frame-here.the_send, Hir-send, Ladder-here.the_field_send, crosses, maps.crosses, sendable) depth 40 fits 20000
+
+Plans-field_sync : IsSync (Plans.the_field).row
+Plans-field_sync = search (Plan_of-sync, crosses, maps.crosses, sendable) depth 40 fits 20000
+
+Plans-field_send : IsSend (Plans.the_field).row
+Plans-field_send = search (Plan_of-send, crosses, maps.crosses, sendable) depth 40 fits 20000
+
+Signs-sync : IsSync Signs.the_row
+Signs-sync = search (Caseless-here.the_sync, Hir-sync, crosses, maps.crosses, sendable) depth 40 fits 20000
+
+Signs-send : IsSend Signs.the_row
+Signs-send = search (Caseless-here.the_send, Hir-send, crosses, maps.crosses, sendable) depth 40 fits 20000
+
+Program-field_sync : IsSync (Program.the_field).row
+Program-field_sync = search (Hir-field_sync, Dfa-here.the_field_sync, Plans-field_sync, Signs-sync, ByteSet-here.the_sync, crosses, maps.crosses, sendable) depth 40 fits 20000
+
+Program-field_send : IsSend (Program.the_field).row
+Program-field_send = search (Hir-field_send, Dfa-here.the_field_send, Plans-field_send, Signs-send, ByteSet-here.the_send, crosses, maps.crosses, sendable) depth 40 fits 20000
+
+RegexPattern-field_sync : IsSync (RegexPattern.the_field).row
+RegexPattern-field_sync = search (Program-field_sync, crosses, maps.crosses, sendable) depth 40 fits 20000
+
+RegexPattern-field_send : IsSend (RegexPattern.the_field).row
+RegexPattern-field_send = search (Program-field_send, crosses, maps.crosses, sendable) depth 40 fits 20000
+
+Regex-field_sync : IsSync (Regex.the_field).row
+Regex-field_sync = search (RegexPattern-field_sync, crosses, maps.crosses, sendable) depth 40 fits 20000
+
+Regex-field_send : IsSend (Regex.the_field).row
+Regex-field_send = search (RegexPattern-field_send, crosses, maps.crosses, sendable) depth 40 fits 20000
+
+Whole-sync : IsSync Whole.the_row
+Whole-sync = search (Regex-field_sync, crosses, maps.crosses, sendable) depth 40 fits 20000
+
+Whole-send : IsSend Whole.the_row
+Whole-send = search (Regex-field_send, crosses, maps.crosses, sendable) depth 40 fits 20000
+
+pub Patterns-sync : IsSync Patterns.the_row
+Patterns-sync = search (Seq-here.the_send, Seq-here.the_sync, Whole-send, Whole-sync, crosses, maps.crosses, sendable) depth 40 fits 20000
+
+pub Patterns-send : IsSend Patterns.the_row
+Patterns-send = search (Seq-here.the_send, Seq-here.the_sync, Whole-send, Whole-sync, crosses, maps.crosses, sendable) depth 40 fits 20000

@@ -1,4 +1,4 @@
--- A range that narrows another lies within the bits within which that one lies.
+-- A range that narrows another one is within the same bits.
 use Rattle.std.proofs.Common.{◌≡◌, ℕ, ◌-◌, ◌^◌, ℤ, pos, negsuc, ◌≤ℤ◌, int_le, Bool, true, false, ◌&&◌, ◌==◌, IsTrue, List, [], ◌∷◌, Option, Some, None, refl, inl, inr, arith}
 use Rattle.std.proofs.lemmas.Int.{ints}
 use Rattle.std.proofs.lemmas.Bool.{cases_Bool, or_cases}
@@ -19,7 +19,7 @@ use Rattle.sal_typedefs.specs.Types.{read_or_all, narrowed}
 use Rattle.sal_build.proofs.Quiet.{both}
 
 module _ (low high : ℤ) where
-  -- a number that is held lies between them
+  -- a covered number is between them
   held-between : (within : List Part) (n : ℤ) → IsTrue (lie_within low high within) → holds within n ≡ true → (low ≤ℤ n) × (n ≤ℤ high)
   held-between [] n h held = cc
   held-between (part ∷ within) n h held =

@@ -1,4 +1,4 @@
--- What each pass found of modules that have a table.
+-- The results of each pass over modules that have a table.
 use Rattle.std.proofs.Common.{◌≡◌, ℕ, ◌≤◌, true, false, nat_lt, List, [], ◌∷◌, ◌++◌, length, map, Option, Some, None, is_some, Result, Ok, refl, sym, ap, ◌∙◌, inl, inr, arith}
 use Rattle.std.proofs.lemmas.Bool.{cases_Bool}
 use Rattle.std.proofs.lemmas.Bool.Decides.{nat_tests}
@@ -36,7 +36,7 @@ least-some : (best : Found) (xs : List Found) → is_some (least (Some best) xs)
 least-some best [] = refl
 least-some best (x ∷ xs) = elim (cases_Bool (is_before x best)) [ inl e ↦ rw e (least-some x xs) | inr e ↦ rw e (least-some best xs) ]
 
--- where none counts there is none
+-- if none counts there is none
 pub none-found : (xs : List Found) → least None xs ≡ None → xs ≡ []
 none-found [] e = refl
 none-found (x ∷ xs) e = let some = ap is_some e in let no = least-some x xs in absurd (let wrong : true ≡ false = sym no ∙ some in cc)

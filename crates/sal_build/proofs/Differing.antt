@@ -1,4 +1,4 @@
--- Lists in which no two elements are alike.
+-- Lists of pairwise different elements.
 use Rattle.std.proofs.Common.{◌≡◌, ℕ, zero, suc, ◌+◌, ◌<◌, ◌≤◌, Bool, true, false, not, ◌&&◌, nat_eq, IsTrue, List, [], ◌∷◌, ◌++◌, map, length, Some, refl, sym, ap, ◌∙◌, subst, inl, inr, arith}
 use Rattle.std.specs.Prelude.{◌||◌, find}
 use Rattle.std.specs.List.{list_all, list_any, enumerate_from, position_from, slice_index}
@@ -122,7 +122,7 @@ none-at p [] j h less = absurd (omega arith)
 none-at p (x ∷ xs) zero h less = or_first (p x) (list_any p xs) h
 none-at p (x ∷ xs) (suc j) h less = none-at p xs j (or_second (p x) (list_any p xs) h) (omega arith)
 
--- where no two are equal, equal ones stand at one place
+-- in a list of distinct elements equal ones have the same place
 pub same-place : (xs : List ℕ) (i j : ℕ) → IsTrue (all_differ nat_eq xs) → i < length xs → j < length xs → nat_eq (slice_index xs i) (slice_index xs j) ≡ true → i ≡ j
 same-place [] i j h a b e = absurd (omega arith)
 same-place (x ∷ xs) zero zero h a b e = refl
@@ -151,7 +151,7 @@ position-above p n (x ∷ xs) j e = elim (cases_Bool (p x)) [
   | inr f ↦ (let h = rw f at e in omega (arith, position-above p (n + 1) xs j h))
 ]
 
--- two names that stand at one place are the same
+-- two names with the same place are equal
 pub same-names : (a b : List ℕ) (n : ℕ) (names : List (List ℕ)) (j : ℕ) → position_from (same a) n names ≡ Some j → position_from (same b) n names ≡ Some j → a ≡ b
 same-names a b n [] j e f = cc
 same-names a b n (x ∷ names) j e f = elim (cases_Bool (same a x)) [

@@ -1,4 +1,4 @@
--- Each name of a module stands for one RPC and for one notification: they stand at the top, where the tree's pass compares their names.
+-- Each name of a module names at most one RPC and one notification: they are at the top level, where the tree's pass compares their names.
 use Rattle.sal_build.specs.Readable.{has_own_places}
 use Rattle.sal_build.proofs.Grown.{AreGrown, built-grown}
 use Rattle.std.proofs.Common.{◌≡◌, ℕ, ◌+◌, ◌<◌, Bool, true, false, not, ◌&&◌, IsTrue, List, [], ◌∷◌, map, take, length, Option, Some, None, refl, sym, ap, ◌∙◌, subst, inl, inr, arith}

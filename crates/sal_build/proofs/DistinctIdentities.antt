@@ -35,7 +35,7 @@ quiet-at : {X Y : Type 0} (f : ℕ → X → List Y) (i k : ℕ) (xs : List X) (
 quiet-at f i k [] x ys at e = let here : i ≡ k = omega arith in subst (λ n. f n x ≡ []) here (front-nil (f i x) (flat_map (λ e. f e.0 e.1) (enumerate_from (i + 1) ys)) e).0
 quiet-at f i k (z ∷ xs) x ys at e = quiet-at f (i + 1) k xs x ys (omega arith) (front-nil (f i z) (flat_map (λ e. f e.0 e.1) (enumerate_from (i + 1) (xs ++ x ∷ ys))) e).1
 
--- one that stands first has none before it
+-- the first one has none before it
 first-alone : {X : Type 0} (p : X → Bool) (i k : ℕ) (xs ys : List X) → k ≡ i + length xs → is_block k (position_from p i (xs ++ ys)) ≡ true → list_any p xs ≡ false
 first-alone p i k [] ys at e = refl
 first-alone p i k (x ∷ xs) ys at e = elim (cases_Bool (p x)) [
@@ -58,7 +58,7 @@ all-joined-from test i (x ∷ xs) ys h k =
     both (test i x) (all_from test (i + 1) (xs ++ ys)) (and_first (test i x) (all_from test (i + 1) xs) h)
     (all-joined-from test (i + 1) xs ys (and_second (test i x) (all_from test (i + 1) xs) h) (subst (λ n. IsTrue (all_from test n ys)) there k))
 
--- ---- rows stand behind those before
+-- ---- rows after those before
 
 pub record Extends (front whole : List TreeRow) : Type 0 where
   pub more : List TreeRow

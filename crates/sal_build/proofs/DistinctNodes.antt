@@ -107,7 +107,7 @@ name-word presence keyword name h = absurd (wrong h)
 
 -- ---- a node, and the one of the table
 
--- what the table says of a node is what the tree says of it
+-- a node in the table is the same as in the tree
 record IsSeen (stmt : Option Stmt) (side : Option Implied) (keyword : Option Keyword) (name : List ℕ) : Type 0 where
   datum : is_data (kind_in stmt side) ≡ is_datum (tree.kind_among keyword side)
   passed : is_choice_or_case (kind_in stmt side) ≡ is_passed (tree.kind_among keyword side)
@@ -194,7 +194,7 @@ module _ (stmts : List Stmt) (owns : AreOwn stmts (rows_of stmts)) (all : List T
   abbrev table : SchemaTable
   table = table_of stmts forest
 
-  -- its parent stands before it, and its statement makes a node
+  -- its parent is before it, and its statement makes a node
   abbrev pub is_fit : ℕ → TreeNode → Bool
   is_fit k node = is_before k node.parent && is_seed node.implied (keyword_at rows node.row)
 
@@ -213,7 +213,7 @@ module _ (stmts : List Stmt) (owns : AreOwn stmts (rows_of stmts)) (all : List T
   seen : (k : ℕ) (node : TreeNode) → IsTrue (is_fit k node) → IsSeen (stmt_at stmts (source_of (slice_get rows node.row)) (place_of (slice_get rows node.row))) node.implied (keyword_at rows node.row) (tree.row_name rows node.row)
   seen k node h = seen-row node.row node.implied (slice_get rows node.row) refl (and_second (is_before k node.parent) (is_seed node.implied (keyword_at rows node.row)) h)
 
-  -- ---- the node that data stand under
+  -- ---- the data parent of a node
 
   abbrev stops : Kind → Bool
   stops kind = not (is_choice_or_case kind)

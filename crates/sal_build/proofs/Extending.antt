@@ -31,7 +31,7 @@ use Rattle.sal_build.specs.Readable.{are_readable}
 use Rattle.sal_build.specs.declared.versions.SchemaVersion.{SchemaVersion}
 use Rattle.sal_build.specs.Versions.{tabled, IsReached, VersionsExtend, VersionsAreTables, FirstIsTable, FirstIsBuilt}
 
--- ---- what a version comes from
+-- ---- the parts of a version
 
 -- the nodes that grew, and what no pass found
 record HasGrown (stmts : List Stmt) (old : ℕ) (before nodes : List TreeNode) : Type 0 where
@@ -140,7 +140,7 @@ next-table first rest older v readable table known it =
     let good = tables-good stmts v.growth it.whole readable it.built grown in
     subst IsTable (sym it.table) (on_is_table older.table it.whole table good part)
 
--- over the first so many statements
+-- the statements as the first `old` ones and the rest
 split : (stmts : List Stmt) (old : ℕ) (older v : Version) → old ≤ length stmts → IsNext stmts old older v → IsNext (take old stmts ++ drop old stmts) (length (take old stmts)) older v
 split stmts old older v h it =
     subst (λ (all : List Stmt). IsNext all (length (take old stmts)) older v) (sym (take-append-drop old stmts)) (subst (λ n. IsNext stmts n older v) (sym (length-take-le old stmts h)) it)

@@ -1,4 +1,4 @@
--- What holds of the types that type statements mean holds of the types of nodes, in which each leafref has its target's type.
+-- A property of the types of type statements is one of the types of nodes, where each leafref has its target's type.
 use Rattle.std.proofs.Common.{◌≡◌, ℕ, zero, suc, Bool, true, false, IsTrue, List, [], ◌∷◌, map, drop, length, Option, Some, None, refl, sym, subst, inl, inr}
 use Rattle.std.specs.Prelude.{◌||◌, if◌then◌else◌}
 use Rattle.std.specs.List.{list_all, enumerate_from}

@@ -54,7 +54,7 @@ below-sized (t ∷ below) h =
     all-joined sized (members_of t (out-YangType t)) (flat_map (λ t. members_of t (out-YangType t)) below) (members-sized t (out-YangType t) refl (and_first (flat t) (list_all flat below) h))
     (below-sized below (and_second (flat t) (list_all flat below) h))
 
--- ---- what a type statement means
+-- ---- the type of a type statement
 
 restricted-flat : (modules : List Stmt) (m : ℕ) (base : Base) (stmt : Stmt) (below : List YangType) (stated layer : Layer) → IsTrue (is_flat layer) → IsTrue (list_all flat below)
     → IsTrue (is_flat (restricted modules m base stmt below (entries_in base stmt stated) layer))

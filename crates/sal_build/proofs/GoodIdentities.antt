@@ -41,7 +41,7 @@ use Rattle.sal_build.proofs.Underived.{derived-inside, is_free, is_other, not-it
 
 -- ---- statements that the profile judges
 
--- by the words of a statement and of the one around it
+-- by the keywords of a statement and of its parent
 abbrev pub words_fit : List ℕ → List ℕ → Bool
 words_fit parent sub = (not (is_prefixed sub) && allows (rule_of parent) sub) && not (same parent (word_of word.Extension))
 

@@ -1,4 +1,4 @@
--- What holds of each node of the whole tree, augments carried out.
+-- Properties of each node of the whole tree, after the augments.
 use Rattle.std.proofs.Common.{◌≡◌, ℕ, zero, suc, ◌+◌, ◌-◌, ◌*◌, ◌<◌, ◌≤◌, Bool, true, ◌==◌, nat_lt, IsTrue, List, [], ◌∷◌, fold, length, Option, Some, None, refl, ap, subst, inl, inr, arith}
 use Rattle.std.specs.Prelude.{option_and_then, is_none}
 use Rattle.std.specs.List.{list_all, slice_get, position_from, enumerate_from}
@@ -58,7 +58,7 @@ at-row count zero (r ∷ rows) row h e =
     let same = ap (λ (r : TreeRow). r.module) is in grind (arith, nat_tests)
 at-row count (suc k) (r ∷ rows) row h e = at-row count k rows row (and_second (is_of_module count r) (list_all (is_of_module count) rows) h) e
 
--- ---- where paths lead
+-- ---- the ends of paths
 
 pub position-below : {X : Type 0} (p : X → Bool) (n : ℕ) (xs : List X) (j : ℕ) → position_from p n xs ≡ Some j → j < n + length xs
 position-below p n [] j e = cc
@@ -85,7 +85,7 @@ follow-below rows forest from (step ∷ path) target h e =
 
 -- ---- the tree
 
--- the test holds of each node that grows by these statements, wherever it stands
+-- the test holds of each node that grows by these statements, at any number
 abbrev pub HoldsOfGrown : List Stmt → (ℕ → TreeNode → Bool) → Type 0
 HoldsOfGrown stmts test =
     (owner k : ℕ) (parent : Option ℕ) (seed : Seed) → owner < length stmts → IsTrue (is_before k parent) → IsTrue (fits (rows_of stmts) seed) → IsTrue (test k (node_of owner parent seed))
@@ -160,7 +160,7 @@ module _ (test : ℕ → TreeNode → Bool) (stmts : List Stmt)
   pub built-good : Good (built stmts (rows_of stmts) (named_of stmts (rows_of stmts))).0
   built-good = rounds-good (length (augments_of rows)) (trees_of stmts rows named, augments_of rows) (trees-good (length stmts) (omega arith))
 
-  -- ---- behind the nodes of an older version
+  -- ---- after the nodes of an older version
 
   from-good : (old : ℕ) (before : List TreeNode) → Good before → (n : ℕ) → old + n ≤ length stmts → Good (trees_from n stmts rows named old before)
   unfolding trees_from

@@ -1,4 +1,4 @@
--- The statements that stand in others: the profile has a place for them there.
+-- The substatements of statements: the profile allows them there.
 use Rattle.std.proofs.Common.{◌≡◌, ℕ, zero, suc, ◌+◌, ◌-◌, ◌<◌, Bool, true, false, not, ◌&&◌, ◌==◌, IsTrue, List, [], ◌∷◌, ◌++◌, fold, take, length, Option, Some, None, refl, sym, ap, ◌∙◌, subst, inl, inr, arith, append_assoc, append-nil}
 use Rattle.std.specs.Prelude.{◌||◌, is_none, option_map, if◌then◌else◌}
 use Rattle.std.specs.List.{list_all, flat_map, enumerate_from, slice_get}
@@ -25,7 +25,7 @@ use Rattle.sal_build.proofs.Quiet.{both, front-nil}
 use Rattle.sal_build.proofs.Shapes.{all-joined}
 use Rattle.sal_build.proofs.Entries.{wrong}
 
--- ---- what a statement can hold
+-- ---- the substatements that a statement can have
 
 -- a leaf or a leaf-list
 abbrev pub is_leafy : Option Keyword → Bool
@@ -44,7 +44,7 @@ abbrev pub adds : Option Keyword → Bool
 adds (Some word.Uses) = true
 adds keyword = is_node keyword
 
--- Cases stand in choices and augments, RPCs and notifications in modules, and in leafs no nodes.
+-- Cases are in choices and augments, RPCs and notifications in modules, and leafs have no nodes.
 abbrev pub can_stand : Option Keyword → Option Keyword → Bool
 can_stand parent child =
     ((not (is_keyword word.Case child) || (is_keyword word.Choice parent || is_keyword word.Augment parent)) && (not (is_call child) || is_keyword word.Module parent)) && (not (adds child) || not (is_leafy parent))
@@ -124,7 +124,7 @@ judged-stands parent sub outer inner at_outer at_inner judged =
 
 -- ---- rows
 
--- A row by itself is a module, and another stands where it can.
+-- A row without parent is a module, and any other one is where its keyword is allowed.
 abbrev pub is_held : List TreeRow → TreeRow → Bool
 is_held rows row = option_map_or (λ b. option_map_or (λ (above : TreeRow). can_stand (Some above.keyword) (Some row.keyword)) (slice_get rows b) false) row.around (is_keyword word.Module (Some row.keyword))
 
@@ -163,16 +163,16 @@ one-held : (rows : List TreeRow) (row : TreeRow) → AreHeld rows → IsTrue (is
 one-held rows row h k =
     all-joined (is_held (rows ++ row ∷ [])) rows (row ∷ []) (all-front rows (row ∷ []) rows h) (both (is_held (rows ++ row ∷ []) row) true (held-front rows (row ∷ []) row k) refl)
 
--- ---- of a statement and what stands in it
+-- ---- of a statement and its substatements
 
--- rows that were held, with others behind them
+-- rows that were allowed, with others after them
 record Holds (rows result : List TreeRow) : Type 0 where
   more : List TreeRow
   is : result ≡ rows ++ more
   held : AreHeld result
 
 module _ (m : ℕ) where
-  -- the row that a statement makes would be held among these
+  -- the row of a statement would be allowed among these
   abbrev WouldStand : List TreeRow → Option ℕ → Stmt → Type 0
   WouldStand rows around stmt = (keyword : Keyword) → part_of stmt ≡ Some keyword → IsTrue (is_held rows (row_of m around stmt keyword))
 

@@ -1,4 +1,4 @@
--- What holds of each node of a table that modules have.
+-- Properties of each node of the table of modules.
 use Rattle.std.proofs.Common.{◌≡◌, ℕ, ◌+◌, Bool, IsTrue, List, [], ◌∷◌, ◌++◌, length, refl, sym, ◌∙◌, inl, inr, arith, append_assoc, length-append}
 use Rattle.std.proofs.lemmas.Bool.{cases_Bool}
 use Rattle.std.specs.List.{list_all}
@@ -18,7 +18,7 @@ module _ (stmts : List Stmt) (forest : List Branch) where
   infos-all test each k [] = refl
   infos-all test each k (b ∷ rest) = both (test (info_of stmts forest k b)) (list_all test (infos_from stmts forest (k + 1) rest)) (each k b) (infos-all test each (k + 1) rest)
 
-  -- each with its number, and where it stands in the forest
+  -- each with its number, and its position in the forest
   pub infos-numbered : (test : ℕ → NodeInfo → Bool)
       → ((done rest : List Branch) (k : ℕ) (b : Branch) → k ≡ length done → forest ≡ done ++ b ∷ rest → IsTrue (test k (info_of stmts forest k b)))
       → (done rest : List Branch) (k : ℕ) → k ≡ length done → forest ≡ done ++ rest → IsTrue (all_from test k (infos_from stmts forest k rest))

@@ -1,4 +1,4 @@
--- What holds of the types of all nodes, where one type statement without faults keeps it: through typedefs, unions and leafrefs.
+-- Properties of the types of all nodes that each type statement without faults keeps: through typedefs, unions and leafrefs.
 use Rattle.std.proofs.Common.{◌≡◌, ℕ, zero, suc, Bool, true, false, ◌&&◌, IsTrue, List, [], ◌∷◌, map, refl, inl, inr}
 use Rattle.std.specs.Prelude.{option_map, is_some, unwrap_or}
 use Rattle.std.specs.List.{list_all, flat_map, slice_get}
@@ -46,7 +46,7 @@ builtin-raw raw none all text = builtin-among raw none names text all
 abbrev pub has_both : (Layer → Bool) → (Layer → List TypeEntry → Bool) → YangType → List TypeEntry → Bool
 has_both test extra t entries = is_stated test t && extra (out-YangType t) entries
 
--- what is asked of one statement: over a built-in type that passes `raw`, and over a type that passes
+-- the condition on one statement: over a built-in type that passes `raw`, and over a type that passes
 abbrev pub Keeps : (Layer → Bool) → (Layer → List TypeEntry → Bool) → (Layer → Bool) → List Stmt → Type 0
 Keeps test extra raw modules =
     (m : ℕ) (base : Base) (stmt : Stmt) (below : List YangType) → (base.itself ≡ true → IsTrue (raw (out-YangType base.type)))

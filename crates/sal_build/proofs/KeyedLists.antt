@@ -1,4 +1,4 @@
--- Just lists have keys, each at least one and none twice: the profile asks for the statement, and its names are judged.
+-- Only lists have keys, each at least one and none twice: the profile requires the statement, and its names are judged.
 use Rattle.sal_build.specs.Readable.{has_own_places}
 use Rattle.std.proofs.Common.{◌≡◌, ℕ, ◌+◌, ◌<◌, Bool, true, false, not, ◌&&◌, ◌==◌, nat_eq, IsTrue, List, [], ◌∷◌, ◌++◌, filter, map, length, Option, Some, None, refl, sym, ap, ◌∙◌, subst, inl, inr, arith, append-nil}
 use Rattle.std.specs.Prelude.{◌||◌, option_map, is_some, is_none, if◌then◌else◌}

@@ -1,4 +1,4 @@
--- Where nodes stand: each below a node that can hold it.
+-- The parents of nodes: each is below a node that can have it as child.
 use Rattle.std.proofs.Common.{◌≡◌, ℕ, zero, suc, ◌+◌, ◌-◌, ◌*◌, ◌<◌, ◌≤◌, Bool, true, false, not, ◌&&◌, ◌==◌, nat_lt, IsTrue, List, [], ◌∷◌, ◌++◌, fold, map, length, Option, Some, None, refl, sym, ap, ◌∙◌, subst, inl, inr, arith, append_assoc, append-nil}
 use Rattle.std.specs.Prelude.{◌||◌, find, option_and_then, option_map, is_some}
 use Rattle.std.specs.List.{list_all, flat_map, slice_get, enumerate_from}
@@ -29,7 +29,7 @@ use Rattle.sal_build.proofs.Quiet.{both}
 use Rattle.sal_build.proofs.Shapes.{fits, is_shape, all-joined, all-found}
 use Rattle.sal_build.proofs.Entries.{wrong}
 
--- ---- what stands under what
+-- ---- which nodes can be below which
 
 -- what is given to an RPC or comes back
 abbrev pub is_param : Option Keyword → Bool
@@ -37,7 +37,7 @@ is_param (Some word.Input) = true
 is_param (Some word.Output) = true
 is_param keyword = false
 
--- Leafs have nothing below them; what stands in a choice are cases, and in an RPC its parameters, and they stand nowhere else.
+-- Leafs have nothing below them; the children of a choice are cases, those of an RPC its parameters, and neither has another parent.
 abbrev pub can_be_under : Option Keyword → Option Keyword → Bool
 can_be_under parent child =
     (not (is_leafy parent) && agree (is_keyword word.Case child) (is_keyword word.Choice parent)) && agree (is_param child) (is_keyword word.Rpc parent)
@@ -88,7 +88,7 @@ grouping-fits (Some word.Grouping) child e h = nothing-more (not (is_keyword wor
     nothing-more false h = h
 grouping-fits (Some keyword) child e h = absurd (wrong e)
 
--- a statement that can stand in a block brings nodes only where it is no leaf
+-- a statement that is allowed in a block adds nodes only if it is not a leaf
 no-leaf : (block child : Option Keyword) → IsTrue (adds child) → IsTrue (can_stand block child) → IsTrue (not (is_leafy block))
 no-leaf block child adds_some h =
     let last = and_second ((not (is_keyword word.Case child) || (is_keyword word.Choice block || is_keyword word.Augment block)) && (not (is_call child) || is_keyword word.Module block)) (not (adds child) || not (is_leafy block)) h in
@@ -139,7 +139,7 @@ all-both a b [] h k = refl
 all-both a b (x ∷ xs) h k =
     both (a x && b x) (list_all (λ x. a x && b x) xs) (both (a x) (b x) (and_first (a x) (list_all a xs) h) (and_first (b x) (list_all b xs) k)) (all-both a b xs (and_second (a x) (list_all a xs) h) (and_second (b x) (list_all b xs) k))
 
--- it stands at the top where it can, or below a node that can hold it
+-- it is at the top level where that is allowed, or below a node that can have it as child
 abbrev pub is_linked_in : List TreeRow → List TreeNode → TreeNode → Bool
 is_linked_in rows forest node =
     option_map_or (λ p. option_map_or (λ (above : TreeNode). can_be_under (kind_of rows above) (kind_of rows node)) (slice_get forest p) false) node.parent (can_be_on_top (kind_of rows node))
@@ -300,7 +300,7 @@ module _ (stmts : List Stmt) (held : AreHeld (rows_of stmts)) where
 
   -- ---- growth
 
-  -- it stands at the top where it can, or below a node that can hold it
+  -- it is at the top level where that is allowed, or below a node that can have it as child
   abbrev pub is_linked : List TreeNode → TreeNode → Bool
   is_linked forest node = option_map_or (λ p. option_map_or (λ (above : TreeNode). can_be_under (kind_of rows above) (kind_of rows node)) (slice_get forest p) false) node.parent (can_be_on_top (kind_of rows node))
 
@@ -422,7 +422,7 @@ module _ (stmts : List Stmt) (held : AreHeld (rows_of stmts)) where
     few [] e = refl
     few (x ∷ xs) e = let some : nat_lt 0 (length (x ∷ xs)) ≡ true = grind (arith, nat_tests) in absurd (let no : true ≡ false = sym some ∙ e in cc)
 
-    -- no case stands in the block itself, and none comes from groupings
+    -- no case is in the block itself, and none is from groupings
     not-found : (p : ℕ → Bool) (xs : List ℕ) → is_some (find p xs) ≡ false → IsTrue (list_all (λ k. not (p k)) xs)
     not-found p [] e = refl
     not-found p (x ∷ xs) e = elim (cases_Bool (p x)) [
@@ -510,7 +510,7 @@ module _ (stmts : List Stmt) (held : AreHeld (rows_of stmts)) where
     pub nodes-linked : AreLinked (built stmts (rows_of stmts) (named_of stmts (rows_of stmts))).0
     nodes-linked = rounds-linked (length (augments_of rows)) (trees_of stmts rows named, augments_of rows) (trees-linked (length stmts) (omega arith))
 
-    -- ---- behind the nodes of an older version
+    -- ---- after the nodes of an older version
 
     from-linked : (old : ℕ) (before : List TreeNode) → AreLinked before → (n : ℕ) → old + n ≤ length stmts → AreLinked (trees_from n stmts rows named old before)
     unfolding trees_from

@@ -1,4 +1,4 @@
--- RPCs and notifications stand at the top: in no other statement than a module has the profile a place for them.
+-- RPCs and notifications are at the top level: the profile allows them only in modules.
 use Rattle.std.proofs.Common.{◌≡◌, ℕ, zero, suc, ◌+◌, ◌-◌, ◌*◌, nat_le, Bool, true, false, not, ◌&&◌, ◌==◌, IsTrue, List, [], ◌∷◌, ◌++◌, fold, map, length, Option, Some, None, refl, sym, ap, ◌∙◌, subst, inl, inr, arith, append_assoc, length-append}
 use Rattle.std.specs.Prelude.{◌||◌, find, option_and_then, option_map, unwrap_or, is_some, is_none, if◌then◌else◌}
 use Rattle.std.specs.List.{list_all, flat_map, slice_get, enumerate_from}
@@ -73,7 +73,7 @@ shape-alone None h = refl
 shape-alone (Some word.Module) h = absurd (wrong h)
 shape-alone (Some keyword) h = refl
 
--- what stands where it can is no call, but in a module
+-- a statement that is allowed there is an RPC or a notification only in a module
 quiet-inside : (parent child : Option Keyword) → is_keyword word.Module parent ≡ false → IsTrue (can_stand parent child) → IsTrue (not (is_call child))
 quiet-inside parent child alone h =
     let front = and_first ((not (is_keyword word.Case child) || (is_keyword word.Choice parent || is_keyword word.Augment parent)) && (not (is_call child) || is_keyword word.Module parent)) _ h in
@@ -99,7 +99,7 @@ module _ (stmts : List Stmt) (held : AreHeld (rows_of stmts)) where
   abbrev is_quiet : ℕ → Bool
   is_quiet k = not (is_call (keyword_at rows k))
 
-  -- ---- what stands in a block
+  -- ---- the statements of a block
 
   block-is : (b : ℕ) (around : Option ℕ) → is_block b around ≡ true → around ≡ Some b
   block-is b None e = absurd (wrong e)
@@ -363,7 +363,7 @@ module _ (stmts : List Stmt) (held : AreHeld (rows_of stmts)) where
   pub calls-alone : Good (built stmts (rows_of stmts) (named_of stmts (rows_of stmts))).0
   calls-alone = (rounds-right (length (augments_of rows)) (trees_of stmts rows named, augments_of rows) (record { good = trees-good (length stmts); left = augments-are [] rows 0 refl refl })).good
 
-  -- ---- behind the nodes of an older version
+  -- ---- after the nodes of an older version
 
   from-alone : (old : ℕ) (before : List TreeNode) → Good before → (n : ℕ) → Good (trees_from n stmts rows named old before)
   unfolding trees_from

@@ -76,7 +76,7 @@ tables_are_small stmts table e = tables-are-small-on stmts (nodes_of stmts) tabl
 
 -- ---- numbers
 
--- the parent stands before it, and its module is there
+-- the parent is before it, and its module exists
 abbrev pub is_placed : ℕ → ℕ → TreeNode → Bool
 is_placed count k node = is_before k node.parent && nat_lt node.module count
 

@@ -1,4 +1,4 @@
--- What a text spells stands in its order: each statement before those in its block, and these before the next one.
+-- The statements of a text are in its order: each statement before its substatements, and these before the next one.
 use Rattle.std.proofs.Common.{◌≡◌, ℕ, zero, suc, ◌<◌, ◌≤◌, true, List, [], ◌∷◌, ◌++◌, length, Option, None, Some, inl, inr, refl, ap, ◌∙◌, arith, length-append}
 use Rattle.std.specs.Prelude.{nat_lt, codes}
 use Rattle.std.proofs.lemmas.Bool.{and_from}
@@ -64,7 +64,7 @@ placed at it subs = simp out-roll-Stmt
 pub subs_made : (at : ℕ) (it : List ℕ × Option (List ℕ)) (subs : List Stmt) → subs_of (made at it subs) ≡ subs
 subs_made at it subs = simp (out-roll-Stmt, subs_of)
 
--- it is shorter behind the statement, which stands where the text begins, and before each place that is not before what follows it
+-- the rest after the statement, which begins where the text begins, is shorter, and before each place that is not before the rest
 record IsPut (levels : ℕ) (whole t : Text) (stmt : Stmt) (rest : Text) : Type 0 where
   shorter : length rest < length t
   at : (out-Stmt stmt).at ≡ place whole t

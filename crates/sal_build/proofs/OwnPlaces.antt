@@ -34,7 +34,7 @@ any-back : (p : ℕ → Bool) (xs ys : List ℕ) → list_any p ys ≡ true → 
 any-back p [] ys h = h
 any-back p (x ∷ xs) ys h = or_right (p x) (list_any p (xs ++ ys)) (any-back p xs ys h)
 
--- the first is none of those behind it
+-- the first is not among those after it
 fresh : (x : ℕ) (xs : List ℕ) → IsTrue (all_differ nat_eq (x ∷ xs)) → list_any (nat_eq x) xs ≡ false
 fresh x xs h = true-is (list_any (nat_eq x) xs) (and_first (not (list_any (nat_eq x) xs)) (all_differ nat_eq xs) h)
 
@@ -59,7 +59,7 @@ apart a (x ∷ xs) ys h one two = elim (cases_Bool (nat_eq a x)) [
   | inr f ↦ apart a xs ys (differ-tail x (xs ++ ys) h) (rw f at one) two
 ]
 
--- ---- what is found at a place
+-- ---- the statement at a place
 
 pub way-any : (levels at : ℕ) (site : Site) → (place_of site == at) ≡ true → way_to levels at site ≡ Some site
 unfolding way_to
@@ -124,9 +124,9 @@ among-places (suc levels) at site s e = elim (cases_Bool (place_of site == at)) 
       (among-subs levels at site s (λ sub. among-places levels at (within site sub) s) (subs_of site.stmt) more)
 ]
 
--- ---- where places differ
+-- ---- different places
 
--- what is found behind one statement more
+-- the result with one more statement before
 pub way-later : (levels at : ℕ) (site s : Site) (sub : Stmt) (subs : List Stmt) → IsTrue (all_differ nat_eq (flat_map (places levels) (sub ∷ subs)))
     → find_first (λ sub. way_to levels at (within site sub)) subs ≡ Some s → find_first (λ sub. way_to levels at (within site sub)) (sub ∷ subs) ≡ Some s
 way-later levels at site s sub subs differ e =

@@ -1,4 +1,4 @@
--- Where no two statements of a text have one place, the statement at the place of a row is its own, and stands in blocks that mean something.
+-- If no two statements of a text have the same place, the statement at the place of a row is the row's, and all blocks around it are read.
 use Rattle.std.proofs.Common.{◌≡◌, ℕ, zero, suc, ◌+◌, true, ◌==◌, nat_eq, IsTrue, List, [], ◌∷◌, ◌++◌, fold, length, Option, Some, None, refl, sym, ap, subst, ◌∙◌, inl, inr, arith, append_assoc, length-append}
 use Rattle.std.specs.Prelude.{option_and_then, is_none, if◌then◌else◌}
 use Rattle.std.specs.List.{list_all, flat_map, enumerate_from, slice_get}

@@ -35,7 +35,7 @@ unprefixed-among (w ∷ all) text keyword h e = elim (cases_Bool (same w.0 text)
   | inr f ↦ unprefixed-among all text keyword (and_second (not (is_prefixed w.0)) (list_all (λ (v : Word). not (is_prefixed v.0)) all) h) (rw f at e)
 ]
 
--- a word of the profile has no prefix
+-- a keyword of the profile has no prefix
 unprefixed : (text : List ℕ) (keyword : Keyword) → keyword_of text ≡ Some keyword → is_prefixed text ≡ false
 unfolding keyword_of words
 unprefixed text keyword e = unprefixed-among words text keyword refl e
@@ -56,7 +56,7 @@ not-extension stmt e = elim (cases_Bool (is_named word.Extension stmt)) [
   | inr f ↦ f
 ]
 
--- ---- what the profile found in a block
+-- ---- the faults of the profile in a block
 
 pub block-quiet : (m : ℕ) (stmt : Stmt) → is_named word.Extension stmt ≡ false → level_faults m stmt ≡ [] → block_faults m stmt (rule_of (out-Stmt stmt).keyword) ≡ []
 unfolding level_faults
@@ -86,7 +86,7 @@ sub-judged m parent sub plain part e =
 
 -- ---- rows
 
--- a statement that is no extension, and in which the profile found nothing: with what holds at so many levels above the last one
+-- a statement that is not an extension, without fault in the profile; `deep` holds at this many levels above the last one
 pub record IsSound (deep : ℕ → Stmt → Bool) (m : ℕ) (stmt : Stmt) : Type 0 where
   pub levels : ℕ
   pub quiet : tree_faults m levels stmt ≡ []

@@ -41,7 +41,7 @@ use Rattle.sal_build.proofs.Entries.{wrong}
 begins : {X : Type 0} (xs front rest : List X) → xs ≡ front ++ rest → BeginsWith xs front
 begins xs front rest e = ap (take (length front)) e ∙ take-append_seam front rest
 
--- ---- what a node is known by
+-- ---- the outline of a node
 
 abbrev outline_with : Option Stmt → Branch → Outline
 outline_with o b = record { parent = b.parent; kind = kind_in o b.implied; «module» = b.module; name = name_in (kind_in o b.implied) (argument_in o) }

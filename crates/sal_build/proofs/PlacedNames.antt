@@ -1,4 +1,4 @@
--- Enumerations and bits have distinct names, and as many distinct places; those of bits lie below 64.
+-- Enumerations and bits have distinct names, and as many distinct places; those of bits are below 64.
 use Rattle.sal_grouping.proofs.Parts.{TreeNode}
 use Rattle.std.proofs.Common.{◌≡◌, ℕ, Bool, true, false, ◌&&◌, ◌==◌, nat_eq, nat_lt, IsTrue, List, [], ◌∷◌, map, length, Some, None, refl, sym, ap, ◌∙◌, subst, inl, inr, arith}
 use Rattle.std.specs.Prelude.{◌||◌, unwrap_or}
@@ -142,7 +142,7 @@ one-quiet : (base : Base) (m : ℕ) (stmt : Stmt) (n : TypeNumbering) → flat_m
 one-quiet base m stmt n e = (front-nil (faults_by base m stmt n) [] e).0
 
 module _ (modules : List Stmt) (m : ℕ) (base : Base) (stmt : Stmt) (below : List YangType) (all : IsTrue (list_all (is_stated is_placed) below)) where
-  -- what is asked of a type with its names
+  -- the condition on a type with its names
   abbrev fit : Layer → List TypeEntry → Bool
   fit layer entries = of_each (stated is_placed) layer && agrees layer entries
 

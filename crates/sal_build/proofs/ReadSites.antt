@@ -54,9 +54,9 @@ module-read stmt e = ap is_read_text (rule-named word.Module stmt e) ∙ module-
 pub no-typedef : (stmt : Stmt) → is_named word.Type stmt ≡ true → is_named word.Typedef stmt ≡ false
 no-typedef stmt e = ap (λ text. same text (word_of word.Typedef)) (rule-named word.Type stmt e) ∙ type-no-typedef
 
--- ---- where a statement stands
+-- ---- the site of a statement
 
--- in these blocks, each of which means something, down from a module; so many levels are left for what stands in it
+-- in these blocks, each of which is read, down from a module; `levels` are left for its substatements
 abbrev pub IsAt : List Stmt → ℕ → ℕ → Stmt → List Stmt → Type 0
 IsAt stmts levels m stmt [] = (levels ≡ 64) × (slice_get stmts m ≡ Some stmt)
 IsAt stmts levels m stmt (block ∷ outer) = In stmt (subs_of block) × IsTrue (is_read block) × IsAt stmts (suc levels) m block outer
@@ -110,7 +110,7 @@ module _ (stmts : List Stmt) (shallow : IsTrue (list_all (is_shallow 64) stmts))
       absurd no
   inner-at (suc levels) site sub at opened inside = record { levels = levels; at = (inside, opened, at) }
 
-  -- what stands in a statement that means something
+  -- a substatement of a statement that is read
   pub inner-read : (site : Site) (sub : Stmt) → IsReadSite stmts site → IsTrue (is_read site.stmt) → In sub (subs_of site.stmt) → IsReadSite stmts (within site sub)
   inner-read site sub read opened inside = inner-at read.levels site sub read.at opened inside
 
@@ -153,7 +153,7 @@ module _ (stmts : List Stmt) (shallow : IsTrue (list_all (is_shallow 64) stmts))
       | inr f ↦ rw f (top-blocks m)
     ]
 
-    -- what a name stands for
+    -- the definition of a name
     pub target-read : (site typedef : Site) → IsReadSite stmts site → target stmts site ≡ Some typedef → IsTypedef stmts typedef
     target-read site typedef read e = elim (cases_Bool (is_builtin site)) [
       | inl t ↦ (let no = rw t at e in cc)

@@ -1,4 +1,4 @@
--- What is read from texts is readable: each statement takes a byte or more, blocks are open 64 deep at most, and no two statements have one place.
+-- Statements read from texts are readable: each takes at least one byte, at most 64 blocks are open, and no two have the same place.
 use Rattle.std.proofs.Common.{◌≡◌, ℕ, zero, suc, ◌+◌, ◌<◌, ◌≤◌, ◌^◌, nat_lt, IsTrue, List, [], ◌∷◌, ◌++◌, map, length, Ok, inl, inr, refl, ap, ◌∙◌, arith, length-append}
 use Rattle.std.specs.Prelude.{codes}
 use Rattle.std.specs.List.{list_all, sum_by}
@@ -16,7 +16,7 @@ use Rattle.sal_build.proofs.OrderedTexts.{gap, head, subs_made, in_order}
 use Rattle.sal_build.proofs.OwnPlaces.{order-differs}
 use Rattle.sal_build.proofs.Quiet.{both}
 
--- as many bytes at least as statements are behind it, and none stands deeper
+-- the text has at least as many bytes as statements, and none is deeper
 record IsCounted (levels : ℕ) (t : Text) (stmt : Stmt) (rest : Text) : Type 0 where
   few : count levels stmt + length rest ≤ length t
   depth : IsTrue (is_shallow levels stmt)
@@ -75,7 +75,7 @@ readable text stmt high few e =
     let is = read_is_spelled text stmt e in
     both (has_own_places stmt) (is_shallow 64 stmt) (order-differs 64 high stmt (in_order text stmt high few is)).0 (counted text stmt is).1
 
--- the statements of texts, so many bytes in all
+-- the statements of texts, with this many bytes in all
 all-readable : (high : ℕ) (texts : List Text) (stmts : List Stmt) → map read texts ≡ map Ok stmts → sum_by length texts < high → IsTrue (list_all is_readable stmts) × (steps_of stmts ≤ sum_by length texts)
 all-readable high [] [] e few = (refl, omega arith)
 all-readable high [] (stmt ∷ stmts) e few = cc

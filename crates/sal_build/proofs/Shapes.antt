@@ -1,4 +1,4 @@
--- What holds of each node of the tree, from one to the next.
+-- Properties of each node of the tree, from one to the next.
 use Rattle.std.proofs.Common.{◌≡◌, ℕ, zero, suc, ◌+◌, ◌<◌, ◌≤◌, Bool, true, nat_lt, IsTrue, List, [], ◌∷◌, ◌++◌, fold, map, length, Option, Some, None, refl, sym, ap, ◌∙◌, subst, inl, inr, arith, length-append}
 use Rattle.std.specs.Prelude.{find}
 use Rattle.std.specs.List.{list_all, flat_map}
@@ -65,7 +65,7 @@ output-shape None h = h
 output-shape (Some Output) h = refl
 output-shape keyword h = absurd (wrong h)
 
--- in an implied case stands a node by itself
+-- an implied case has one node
 abbrev pub is_seed : Option Implied → Option Keyword → Bool
 is_seed (Some implied.Case) keyword = is_node keyword
 is_seed side keyword = is_shape keyword

@@ -47,7 +47,7 @@ abbrev pub walk : List Stmt → ℕ → Site → Site
 walk stmts zero site = site
 walk stmts (suc n) site = walk stmts n (next stmts site)
 
--- so many steps lead from it
+-- this many steps lead from it
 abbrev pub Goes : List Stmt → ℕ → Site → Type 0
 Goes stmts zero site = ⊤
 Goes stmts (suc n) site = (moves stmts site ≡ true) × Goes stmts n (next stmts site)

@@ -105,7 +105,7 @@ nothing-in : (xs : List Stmt) (x : Stmt) → (length xs == 0) ≡ true → Among
 nothing-in [] x e among = among
 nothing-in (y ∷ ys) x e among = let more : (length (y ∷ ys) == 0) ≡ false = grind (arith, nat_tests) in let no : true ≡ false = sym e ∙ more in cc
 
--- ---- what stands in a block that is judged
+-- ---- the statements of a block that is judged
 
 pub level-quiet : (m levels : ℕ) (stmt : Stmt) → tree_faults m levels stmt ≡ [] → level_faults m stmt ≡ []
 level-quiet m zero stmt e = sym (tree_faults-last m stmt) ∙ e
@@ -210,7 +210,7 @@ module _ (modules : List Stmt) (are : AreModules modules) where
         | Some m ↦ λ e. closest-sound m (local name) (blocks_of modules site m) t (blocks-sound site m sound) e
       ] e
 
-  -- ---- what a type rests on
+  -- ---- the types that a type uses
 
   pub types-sound : (site : Site) → SoundSite site → Each SoundSite (types_in site)
   types-sound site sound =

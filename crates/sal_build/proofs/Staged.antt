@@ -1,5 +1,5 @@
--- The nodes of a version are grown: what holds of each node that grows, wherever it stands, holds of them; each stands where it can; and calls stand at the
--- top. The nodes of an older version are grown by the statements of a later one too.
+-- The nodes of a version are grown: a property of each node that grows, at any number, holds of them; each is where it is allowed; and RPCs
+-- and notifications are at the top level. The nodes of an older version are grown by the statements of a later one too.
 use Rattle.std.proofs.Common.{◌≡◌, ℕ, ◌+◌, Bool, false, not, IsTrue, List, [], ◌∷◌, ◌++◌, fold, length, Option, Some, None, refl, sym, ap, ◌∙◌, subst, arith, length-append}
 use Rattle.std.specs.Prelude.{◌||◌, option_map, is_none}
 use Rattle.std.specs.List.{list_all, flat_map, slice_get, enumerate_from}

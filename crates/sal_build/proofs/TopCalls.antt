@@ -1,4 +1,4 @@
--- RPCs and notifications of a table stand at the top: as their statements do, and the statement of each is its own.
+-- RPCs and notifications of a table are at the top level: the same holds of their statements, and each node has its own statement.
 use Rattle.sal_build.specs.Readable.{has_own_places}
 use Rattle.sal_build.proofs.Grown.{AreGrown, built-grown}
 use Rattle.std.proofs.Common.{◌≡◌, ℕ, ◌+◌, Bool, true, false, not, IsTrue, List, [], ◌∷◌, map, Option, Some, None, refl, sym, ap, ◌∙◌, subst}

@@ -1,4 +1,4 @@
--- What identities are derived from: identities that are there, and none from itself.
+-- Identities are derived from existing identities, and none from itself.
 use Rattle.std.proofs.Common.{◌≡◌, ℕ, zero, suc, Bool, true, false, not, ◌==◌, IsTrue, List, [], ◌∷◌, ◌++◌, fold, get_or, refl, inl, inr}
 use Rattle.std.specs.Prelude.{◌||◌}
 use Rattle.std.specs.List.{list_all, list_any, flat_map}
@@ -51,7 +51,7 @@ module _ (edges : List (List ℕ)) (i : ℕ) where
   abbrev pub is_other : ℕ → Bool
   is_other j = not (j == i)
 
-  -- and one from which no way leads back in so many steps
+  -- and one from which no chain of this many steps leads back
   abbrev pub is_free : ℕ → ℕ → Bool
   is_free n b = not (b == i || reaches edges n i (get_or edges b []))
 

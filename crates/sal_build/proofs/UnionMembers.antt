@@ -166,7 +166,7 @@ union-named : (text : List ℕ) → is_union (out-YangType (unwrap_or (option_ma
 unfolding builtin_of
 union-named text e = union-among names text names-good e
 
--- ---- in so many steps
+-- ---- in this many steps
 
 some-named : (test : Stmt → Bool) (site : Site) (subs : List Stmt) → list_any test subs ≡ true → is_some_site (map (within site) (filter test subs)) ≡ true
 some-named test site [] e = absurd (wrong e)
@@ -222,7 +222,7 @@ module _ (modules : List Stmt) where
             none-derived f site (rests_on modules site) under (sym (ap has_some type) ∙ none))
       ]
 
-  -- a union without members is at the end of a way of so many steps
+  -- a union without members is at the end of a chain of this many steps
   goes-far : (steps : ℕ) (site : Site) → (judge steps modules site).faults ≡ [] → has_some (judge steps modules site).type ≡ false → Goes modules steps site
   unfolding judge judge_last
   goes-far zero site quiet e = tt

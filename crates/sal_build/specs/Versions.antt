@@ -10,11 +10,11 @@ use Rattle.sal_module_table.specs.Versions.{first, next, version}
 use Rattle.sal_build.specs.Readable.{are_readable}
 use Rattle.sal_build.specs.declared.versions.SchemaVersion.{SchemaVersion}
 
--- the version as one with a table in place of a schema
+-- the version with a table in place of its schema
 abbrev pub tabled : SchemaVersion → Version
 tabled v = version v.growth v.schema
 
--- The version of these statements that is reached through older ones. The counts tell how many of the statements each older one has, the last one first.
+-- The version of these statements that is reached through older ones. `olds` has the number of statements of each older one, the last one first.
 abbrev pub IsReached : List ℕ → List Stmt → Version → Type 0
 IsReached [] stmts v = first stmts ≡ Ok v
 IsReached (old ∷ olds) stmts v = (older : Version) × (old ≤ length stmts) × IsReached olds (take old stmts) older × (next stmts old older ≡ Ok v)
@@ -27,13 +27,13 @@ IsVersionOf stmts v = (olds : List ℕ) × IsReached olds stmts v
 abbrev pub VersionsExtend : Type 0
 VersionsExtend = (stmts : List Stmt) (old : ℕ) (older v : Version) → next stmts old older ≡ Ok v → Extends v.table older.table
 
--- Of statements as they are read from texts, the next version has the table of a schema where the older one has.
+-- For statements that are read from texts, the next version has the table of a schema if the older one has.
 abbrev pub VersionsAreTables : Type 0
 VersionsAreTables =
     (stmts : List Stmt) (old : ℕ) (older v : Version) → IsTrue (are_readable stmts) → old ≤ length stmts → IsVersionOf (take old stmts) older
     → IsTable older.table → next stmts old older ≡ Ok v → IsTable v.table
 
--- Of statements as they are read from texts, the first version has the table of a schema.
+-- For statements that are read from texts, the first version has the table of a schema.
 abbrev pub FirstIsTable : Type 0
 FirstIsTable = (stmts : List Stmt) (v : Version) → IsTrue (are_readable stmts) → first stmts ≡ Ok v → IsTable v.table
 

@@ -60,7 +60,7 @@ data_node-Some table n good inside =
     ∙ closest-Some test table (size - 1) n
     ∙ ap (λ r. cond (is_kind test table n) (Some n) r) enough
 
--- what is found is a node
+-- the result is a node
 pub closest-inside : (test : Kind → Bool) (table : SchemaTable) (steps : ℕ) (here : Option ℕ) → IfSome (closest test table steps here) (λ k. k < length table.nodes)
 unfolding closest
 closest-inside test table zero here = tt
@@ -70,7 +70,7 @@ closest-inside test table (suc steps) (Some n) = elim (is_kind test table n) as 
   | false ↦ λ e. closest-inside test table steps (parent_of table n)
 ] refl
 
--- what is said of a node's kind
+-- a test of a node's kind
 pub kind_says : (test : Kind → Bool) (table : SchemaTable) (n : ℕ) (kind : Kind) → kind_of table n ≡ Some kind → is_kind test table n ≡ test kind
 kind_says test table n kind e = ap (λ o. option_map_or test o false) e
 
@@ -103,7 +103,7 @@ outside test table n past = ap (λ r. option_map_or test (option_map (λ (node :
 no_parent : (table : SchemaTable) (n : ℕ) → length table.nodes ≤ n → parent_of table n ≡ None
 no_parent table n past = ap (λ r. option_and_then (λ (node : NodeInfo). node.parent) r) (slice_get_past table.nodes n past)
 
--- past the table nothing is climbed
+-- a number past the table has no steps above it
 pub from-outside : (table : SchemaTable) (n i above : ℕ) (steps : List Step) → i < n → length table.nodes ≤ above → from_list table (n - i) (Some above) steps ≡ steps
 from-outside table n i above steps here past =
     from-step table n i above steps here

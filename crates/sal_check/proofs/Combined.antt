@@ -61,7 +61,7 @@ pub combinations-all : (ways : List (List Step)) (o : Option Tree) (t : Tree) (c
     → now ≡ all_combinations ways (take i (seen cs)) → now ≡ all_combinations ways (kids_in o)
 combinations-all ways o t cs i now is same l was = was ∙ ap (all_combinations ways) (seen-all cs i l ∙ same) ∙ sym (ap (λ o. all_combinations ways (kids_in o)) is)
 
--- what is seen from further up
+-- as seen from further up
 module _ (o : Option Tree) (n : ℕ) (ways : List (List Step)) where
   abbrev list : Option Tree
   list = kid o (Node n)

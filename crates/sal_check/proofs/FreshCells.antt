@@ -115,12 +115,12 @@ module _ (stamps : List ℕ) (ways : List (List Step)) (before : Option Tree) wh
   pub picked-all : (cs : List (Bor Child)) (es : Entries) (i : ℕ) (now : Cells) → seen cs ≡ made_by stamps es → length cs ≤ i → now ≡ flat_map (pick ways before) (take i (seen cs)) → now ≡ flat_map (fresh_of stamps ways before) es
   picked-all cs es i now same l is = is ∙ ap (flat_map (pick ways before)) (seen-all cs i l ∙ same) ∙ picked-made es
 
-  -- where no entry is fresh, none agrees with one
+  -- if no entry is fresh, none agrees with a fresh one
   pub none-agree : (es : Entries) → flat_map (fresh_of stamps ways before) es ≡ [] → agree_freshly stamps ways before es ≡ false
   none-agree es is = (λ i. has_double (is i) || list_any (is_among (is i)) (flat_map (other_of stamps ways before) es)) ∙ any-no (flat_map (other_of stamps ways before) es)
 
   module _ (f : List Cell → Bool) (e : Step × Tree) where
-    -- what is asked of another entry than the fresh ones
+    -- an entry that lacks one of the leafs adds no cell
     pub known-none : leafs_of ways (Some e.1) ≡ None → false ≡ list_any f (other_of stamps ways before e)
     known-none is = sym (ap (λ (l : Cells). list_any f (if is_fresh stamps ways before e then [] else l)) (none-combination ways e is) ∙ either (is_fresh stamps ways before e))
       where

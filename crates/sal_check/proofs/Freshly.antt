@@ -1,4 +1,4 @@
--- Two entries agree just where a fresh one agrees with another, if none did before.
+-- Two entries agree exactly if a fresh one agrees with another one, if none did before.
 use Rattle.std.proofs.Common.{◌≡◌, ℕ, Bool, true, false, cond, not, ◌&&◌, ◌||◌, List, [], ◌∷◌, ◌++◌, inl, inr, Option, Some, None, refl, sym, ap, subst, ◌∙◌, if◌then◌else◌}
 use Rattle.std.specs.Prelude.{T, is_some}
 use Rattle.std.specs.List.{list_any, flat_map}
@@ -116,7 +116,7 @@ module _ (stamps : List ℕ) (ways : List (List Step)) (before : Option Tree) (n
     | false ↦ λ old h. (e.1, keeps (e.0 ∷ []) e.1 (find-in e.0 e.1 es sorted i) old, (x, has, same-IsEquivalence.refl x))
   ] refl stale
 
-  -- ---- so those do not agree with one another
+  -- ---- so those do not agree
 
   chain : (a b c d : List Cell) → same_cells a b ≡ true → same_cells b c ≡ true → same_cells d c ≡ true → same_cells a d ≡ true
   chain a b c d one two three =

@@ -59,14 +59,14 @@ neither Greater g l = cc
 le-itself : (a : Breach) → le a a
 le-itself a = ap is_gt (tied_itself total a)
 
--- where a does not come before b, b does not come after it
+-- if a is not before b, b is not after it
 le-back : (a b : Breach) → is_lt (breach_cmp b a) ≡ false → le a b
 le-back a b e = ap is_gt (total.antisymm a b) ∙ turned (breach_cmp b a) ∙ e
 
 same : (a b : Breach) → le a b → le b a → a ≡ b
 same a b h k = breach_cmp-IsAntisymmetric a b (neither (breach_cmp a b) h (sym (turned (breach_cmp a b)) ∙ sym (ap is_gt (total.antisymm b a)) ∙ k))
 
--- one that was kept: it is there, and none comes before it
+-- the least one so far: it is in the list, and none is before it
 abbrev IsLeast : Breach → Breach → List Breach → Type 0
 IsLeast m a xs = In m (a ∷ xs) × ((b : Breach) → In b (a ∷ xs) → le m b)
 

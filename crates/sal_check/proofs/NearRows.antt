@@ -1,4 +1,4 @@
--- A rule depends only on the rows below the place where it is judged.
+-- A rule depends only on the rows below the place at which it is judged.
 use Rattle.std.proofs.Common.{◌≡◌, ℕ, true, false, List, [], ◌∷◌, ◌++◌, ◌&&◌, ◌||◌, Option, Some, refl, ap, sym, ◌∙◌, cond, if◌then◌else◌, append_assoc, map, length}
 use Rattle.std.specs.List.{list_any, flat_map}
 use Rattle.std.specs.Option.{option_to_list}
@@ -42,7 +42,7 @@ other_path p q r e = elim (path_eq (p ++ q) r) as (λ b. path_eq (p ++ q) r ≡ 
   | false ↦ λ f. refl
 ] refl
 
--- ---- what is seen from a place
+-- ---- the children of a place
 
 has-under : (rows : List Row) (p q : List Step) → has rows (p ++ q) ≡ has (under rows p) (p ++ q)
 has-under [] p q = refl
@@ -78,7 +78,7 @@ further-from rows place steps = λ i. record { has = λ p. has rows (sym (append
 further-same : (before after : List Row) (place steps : List Step) → under before (place ++ steps) ≡ under after (place ++ steps) → further (seen_from before place) steps ≡ further (seen_from after place) steps
 further-same before after place steps e = further-from before place steps ∙ seen-same before after (place ++ steps) e ∙ sym (further-from after place steps)
 
--- ---- rules that are judged by their list alone
+-- ---- rules that depend only on their list
 
 module _ (table : SchemaTable) (m : Option ℕ) (n : ℕ) (see also : Seen) (same : further see (Node n ∷ []) ≡ further also (Node n ∷ [])) where
   pub too_many-local : broken table see m (MaxElements n) ≡ broken table also m (MaxElements n)

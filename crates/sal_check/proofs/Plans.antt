@@ -74,7 +74,7 @@ kept-no test fails (suc n) =
     ap (λ k. filter test (first k)) (let e : suc n ≡ n + 1 = omega arith in e) ∙ sym (kept-one_more test n)
     ∙ (λ i. kept-no test fails n i ++ (if fails n i then n ∷ [] else []))
 
--- ---- where nodes are judged
+-- ---- the places at which nodes are judged
 
 module _ (table : SchemaTable) where
   abbrev size : ℕ

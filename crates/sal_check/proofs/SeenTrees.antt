@@ -1,4 +1,4 @@
--- What is seen in rows from a place is what is seen in the tree of nodes.
+-- The children of a place in rows are those in the tree of nodes.
 use Rattle.std.proofs.Common.{◌≡◌, Bool, true, false, List, [], ◌∷◌, ◌++◌, Option, Some, None, refl, ap, sym, ◌∙◌, cond, if◌then◌else◌, append-nil}
 use Rattle.std.specs.Prelude.{is_some}
 use Rattle.std.proofs.lemmas.Grind.{flat_map-append}

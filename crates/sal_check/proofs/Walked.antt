@@ -221,7 +221,7 @@ module _ (table : SchemaTable) (store : Store) (root : Tree) (whole : IsGrove ro
     | inr low ↦ below_place [] root.kids b whole (below_next [] root whole refl) low
   ]
 
-  -- ---- and the other way
+  -- ---- and conversely
 
   below_kid : (place : List Step) (spot : Spot) (x : Step) (k : Tree) (f : Forest) (b : Breach) → find step_cmp x (pairs f) ≡ Some k → In b (found table store (place ++ x ∷ []) (after_step table spot x) k) → In b (found_below table store place spot f)
   below_kid place spot x k bare b is i = cc

@@ -1,4 +1,4 @@
--- The breaches near what changed from one tree to another: those of places below which something changed.
+-- The breaches near the changes from one tree to another: those of places below which something changed.
 use Rattle.std.specs.Prelude.{◌≡◌, ◌≢◌, ◌==◌, ℕ, Bool, true, false, not, ◌&&◌, ◌||◌, List, [], ◌∷◌, ◌++◌, length, map, nat_le, Option, Some, None, is_some, if◌then◌else◌}
 use Rattle.std.specs.List.{flat_map, list_any}
 use Rattle.sal_types.specs.declared.value.Store.{Store}
@@ -26,14 +26,14 @@ use Rattle.sal_rules.specs.Seen.{seen_from}
 
 -- ---- laws of the rules
 
--- A rule that is newly broken at a place has a row that came, went or changed below the place.
+-- A rule that is newly broken at a place has a row below the place that was added, removed or changed.
 abbrev pub BreaksNearAChange : Type 0
 BreaksNearAChange =
     (table : SchemaTable) (before after : List Row) (place : List Step) (m : Option ℕ) (rule : Rule)
     → broken table (seen_from before place) m rule ≡ false → broken table (seen_from after place) m rule ≡ true
     → under before place ≢ under after place
 
--- Too many entries, and entries that agree, have it in their list.
+-- Too many entries, and entries that agree, have such a row in their list.
 abbrev pub TooManyNearAChange : Type 0
 TooManyNearAChange =
     (table : SchemaTable) (before after : List Row) (place : List Step) (m : Option ℕ) (n : ℕ)
@@ -52,7 +52,7 @@ RepeatsNearAChange =
 abbrev pub AreGroves : Option Tree → Tree → Type 0
 AreGroves before t = IsSound before × IsGrove t.kids
 
--- whether the stamp is one of those that the change gave
+-- whether the stamp is one of those of the change
 abbrev pub is_new : List ℕ → ℕ → Bool
 is_new [] s = false
 is_new (k ∷ stamps) s = (s == k) || is_new stamps s
@@ -71,13 +71,13 @@ abbrev pub leafs_of : List (List Step) → Option Tree → Option (List Cell)
 leafs_of ways None = None
 leafs_of ways (Some t) = if is_some t.cell then cells_at (seen_in (Some t)) ways else None
 
--- the cells after are there, and are not those before
+-- the cells after exist, and differ from those before
 abbrev pub differs : Option (List Cell) → Option (List Cell) → Bool
 differs before None = false
 differs None (Some cells) = true
 differs (Some old) (Some cells) = not (same_cells old cells)
 
--- an entry of a list that has other cells than it had in the list before
+-- an entry of a list with other cells than it had in the list before
 abbrev pub is_fresh : List ℕ → List (List Step) → Option Tree → Step × Tree → Bool
 is_fresh stamps ways before e = is_new stamps e.1.stamp && differs (leafs_of ways (kid before e.0)) (leafs_of ways (Some e.1))
 
@@ -90,7 +90,7 @@ other_of stamps ways before e = if is_fresh stamps ways before e then [] else co
 abbrev pub is_among : List (List Cell) → List Cell → Bool
 is_among xs x = list_any (same_cells x) xs
 
--- two fresh entries agree, or another one with a fresh one
+-- two fresh entries agree, or a fresh one agrees with another one
 abbrev pub agree_freshly : List ℕ → List (List Step) → Option Tree → List (Step × Tree) → Bool
 agree_freshly stamps ways before es =
     has_double (flat_map (fresh_of stamps ways before) es)
@@ -107,8 +107,8 @@ abbrev pub is_kept : List ℕ → Option Tree → Bool
 is_kept stamps None = false
 is_kept stamps (Some t) = not (is_new stamps t.stamp)
 
--- The stamps say that the rule is kept at a place where it was kept before: its list is the one that was there, and for
--- the fewest entries this many were demanded before. If there was nothing before, they say nothing.
+-- The stamps show that the rule is kept at a place where it was kept before: its list is unchanged, and the fewest entries of the rule were
+-- required before too. If there was nothing before, they show nothing.
 abbrev pub is_settled : List ℕ → SchemaTable → Option Tree → Option Tree → Rule → Bool
 is_settled stamps table None after rule = false
 is_settled stamps table (Some b) after (Mandatory n) = false
@@ -121,13 +121,13 @@ is_settled stamps table (Some b) after (TwoCases n) = false
 abbrev pub breach_there : SchemaTable → List Step → Rule → List Breach
 breach_there table place rule = if nat_le (length (place ++ steps_to table rule)) 32 then record { path = place ++ steps_to table rule; rule = rule } ∷ [] else []
 
--- that of one that may be broken, if it is looked at
+-- the breach of a rule that may be broken, if it is checked
 abbrev pub breach_if : SchemaTable → Store → List Step → Rule → Bool → List Breach
 breach_if table store place rule is_broken =
     if (is_looked_at table store (node_of_rule rule) && is_broken) && nat_le (length (place ++ steps_to table rule)) 32
     then record { path = place ++ steps_to table rule; rule = rule } ∷ [] else []
 
--- A rule is broken at a place, where it was kept before: a `unique` statement by a fresh entry.
+-- A rule is broken at a place where it was kept before: a `unique` statement by a fresh entry.
 abbrev pub broken_near : List ℕ → SchemaTable → Option Tree → Tree → Option ℕ → Rule → Bool
 broken_near stamps table None t m rule = broken table (seen_in (Some t)) m rule
 broken_near stamps table (Some b) t m (Mandatory n) = broken table (seen_in (Some t)) m (Mandatory n)

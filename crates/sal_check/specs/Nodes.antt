@@ -1,4 +1,4 @@
--- The same, seen in a tree of nodes: how the walk over a tree finds its breaches.
+-- The same in a tree of nodes: how the walk over a tree finds its breaches.
 use Rattle.std.specs.Prelude.{◌≡◌, ◌<◌, ℕ, ◌+◌, slice_index_or, Bool, ◌||◌, ◌&&◌, nat_eq, nat_lt, List, [], ◌∷◌, ◌++◌, length, Option, Some, None, is_some, if◌then◌else◌}
 use Rattle.std.specs.List.{filter, list_any}
 use Rattle.std.specs.declared.alloc.Global.{Global}
@@ -19,9 +19,9 @@ use Rattle.sal_rules.specs.Places.{after_step}
 use Rattle.sal_rules.specs.Rules.{has_minimum, is_required}
 use Rattle.sal_rules.specs.Seen.{Seen}
 
--- ---- what is seen
+-- ---- the tree as a place
 
--- the steps to those that have a cell
+-- the steps to the children that have a cell
 abbrev pub own_steps : List (Step × Tree) → List Step
 own_steps [] = []
 own_steps (e ∷ es) = if is_some e.1.cell then e.0 ∷ own_steps es else own_steps es
@@ -31,12 +31,12 @@ seen_in o = record { has = λ p. present (at o p); cell = λ p. cell_in (at o p)
 
 -- ---- which nodes are judged where
 
--- the number of a place's list of nodes: that of the root comes first
+-- the number of a place's list of nodes: the root's is first
 abbrev pub slot : Option ℕ → ℕ
 slot None = 0
 slot (Some n) = n + 1
 
--- a rule is stated at the node: no other node has one that is broken
+-- a rule is stated at the node: no other node has a rule that is broken
 abbrev pub states : SchemaTable → ℕ → Bool
 states table n = is_required table n || (has_minimum table n || (is_some (max_elements table n) || (nat_lt 0 (length (uniques_of table n)) || is_kind is_choice table n)))
 
@@ -49,7 +49,7 @@ judged_in table k = filter (is_judged_in table k) (first (length table.nodes))
 abbrev pub judged : SchemaTable → Option ℕ → List ℕ
 judged table m = judged_in table (slot m)
 
--- the lists are those of the root and of each node, with a flag whether there is anything to judge
+-- the lists of the root and of each node, with a flag whether there is anything to judge
 pub record AreJudged (table : SchemaTable) (lists : List (Vec ℕ Global)) (any : Bool) : Type 0 where
   pub count : length lists ≡ length table.nodes + 1
   pub each : (k : ℕ) (d : Vec ℕ Global) → k < length lists → (slice_index_or lists k d).items ≡ judged_in table k

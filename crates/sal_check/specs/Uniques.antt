@@ -1,4 +1,4 @@
--- The leafs of a `unique` statement, seen in a list of nodes.
+-- The leafs of a `unique` statement in a list of nodes.
 use Rattle.std.specs.Prelude.{◌≡◌, List, [], ◌∷◌, ◌++◌, Some, is_some, if◌then◌else◌}
 use Rattle.std.specs.List.{list_any}
 use Rattle.std.specs.Cmp.Lexicographic.{slice_cmp}
@@ -44,6 +44,6 @@ Key = Bor (List (Bor Cell))
 abbrev pub key_cmp : Key → Key → Ordering
 key_cmp x y = slice_cmp (λ (a b : Bor Cell). cell_cmp a.now b.now) x.now y.now
 
--- the set has just those
+-- the set has exactly those
 abbrev pub Holds : BTreeSet Key → List (List Cell) → Type 0
 Holds set xs = (q : Key) → contains key_cmp set q ≡ list_any (same_cells (cells_in q.now)) xs

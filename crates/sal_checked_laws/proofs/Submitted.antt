@@ -34,7 +34,7 @@ grow_on tx mid new first next = record {
       ∙ (λ i. record tx { ops = append_assoc tx.ops first.more next.more i });
 }
 
--- ---- what a shared call leaves
+-- ---- after a shared call
 
 other : {A : Type 0} (b : Bool) (x y : A) → not b ≡ true → (if b then x else y) ≡ y
 other true x y is = cc

@@ -16,14 +16,14 @@ some : (word : List ℕ) → starts_well word ≡ true → 0 < length word
 some [] e = absurd cc
 some (c ∷ word) e = omega arith
 
--- what is said of the digits and their value, where this was read
+-- the digits and their value, if this was read
 abbrev Told : {E : Type 0} → List ℕ → Result ℕ E → Type 0
 Told word r = OkIff r ((0 < length word) × (read_on 0 word < 2 ^ 32)) (read_on 0 word)
 
 told : {E : Type 0} (word : List ℕ) (r : Result ℕ E) → ParsesUnsigned 32 10 word r → is_plain word ≡ true → Told word r
 told word r parsed plain = parse_digits own 32 word r parsed (and_parts (starts_well word) (list_all is_ascii_digit word) plain).1
 
--- what is read of plain digits
+-- the value of plain digits
 pub read_plain : {E : Type 0} (word : List ℕ) (n : ℕ) (r : Result ℕ E) → ParsesUnsigned 32 10 word r → r ≡ Ok n → is_plain word ≡ true → Some n ≡ value_of word
 read_plain word n r parsed is plain =
     let gives : ((0 < length word) × (read_on 0 word < 2 ^ 32)) × (n ≡ read_on 0 word) = subst (Told word) is (told word r parsed plain) in
@@ -31,7 +31,7 @@ read_plain word n r parsed is plain =
     let low : nat_lt (read_on 0 word) (2 ^ 32) ≡ true = grind (arith, nat_tests, small) in
     rw (low, gives.1) refl
 
--- where nothing is read the number is too large
+-- if nothing is read the number is too large
 pub unread_plain : {E : Type 0} (word : List ℕ) (e : E) (r : Result ℕ E) → ParsesUnsigned 32 10 word r → r ≡ Err e → is_plain word ≡ true → None ≡ value_of word
 unread_plain word e r parsed is plain =
     let fails : ((0 < length word) × (read_on 0 word < 2 ^ 32)) → ⊥ = subst (Told word) is (told word r parsed plain) in

@@ -22,7 +22,7 @@ newest-at o cs =
     let last : length (o ∷ cs) - 1 ≡ length cs = omega arith in
     get_or_default (o ∷ cs) (length cs) o (newest_of o cs) (omega arith) ∙ ap (λ i. get_or (o ∷ cs) i (newest_of o cs)) (sym last)
 
--- ---- what holds of them
+-- ---- properties of them
 
 pub anew-kept : (cs : List Commit) → AreKept cs → AreKept (begun_anew cs)
 anew-kept [] are = are

@@ -12,13 +12,13 @@ use Rattle.sal_commit.specs.Versions.{newest_in, tables_of, version_in}
 abbrev pub newest_of : Commit → List Commit → Commit
 newest_of opening commits = slice_index_or (opening ∷ commits) (length commits) opening
 
--- the commits of the next epoch: its opening alone, which has the trees and the receipt of the newest commit
+-- the commits of the next epoch: only its opening, with the trees and the receipt of the newest commit
 abbrev pub begun_anew : List Commit → List Commit
 begun_anew [] = []
 begun_anew (opening ∷ commits) = record opening { receipt = (newest_of opening commits).receipt; trees = (newest_of opening commits).trees } ∷ []
 
--- The domain in the next epoch: the present version of its schema is version 0, those after it stay, and its newest trees are its opening. The
--- controller's own domain alone is live.
+-- The domain in the next epoch: the present version of its schema is version 0, the later versions stay, and its newest trees are its
+-- opening. Only the controller's own domain is live.
 pub record BeginsAnew (old : Domain) (under : Rules) (new : Domain) : Type 0 where
   pub number : new.number ≡ old.number
   pub live : new.live ≡ nat_eq old.number 0

@@ -23,14 +23,14 @@ use Rattle.sal_commit.specs.declared.domain.Domain.{Domain}
 use Rattle.sal_commit.specs.Domains.{IsSame}
 use Rattle.sal_commit.specs.Stamps.{first_receipt, receipts_of}
 
--- A submission that can be decided in the domain: its base is one of the domain's commits, and its rows lie below their
+-- A submission that can be decided in the domain: its base is one of the domain's commits, and its rows are below their
 -- paths.
 pub record IsFor (d : Domain) (sub : Submission) : Type 0 where
   pub kept : AreKept d.commits.items
   pub base : sub.base_commit < length d.commits.items
   pub below : LieBelow sub.changes
 
--- the foreign commits: those after the base without those of the submission's own chain
+-- the foreign commits: those after the base, except those of the submission's own chain
 abbrev pub spans_of : Domain → Submission → List Span
 spans_of d sub = spans sub.base_commit sub.chain (chains_of d.commits.items)
 
@@ -48,15 +48,15 @@ invalid d sub s = outcome.invalid d.schema.value (opening_in d.commits.items) (o
 abbrev pub breached : Domain → Submission → Option Outcome
 breached d sub = option_or (invalid d sub Config) (invalid d sub Oper)
 
--- the outcome of a submission at the newest commit of the domain, where its chain has not failed and the domain is live
+-- the outcome of a submission at the newest commit of the domain, if its chain has not failed and the domain is live
 abbrev pub judge : Domain → Submission → Outcome
 judge d sub = outcome.decide d.schema.value (opening_in d.commits.items) (ops_of d.commits.items) d.rules (rows_in sub.base) (spans_of d sub) sub.changes
 
--- the outcome that names the domain, where it is not live any more
+-- the outcome that names the domain, if it is no longer live
 abbrev pub gone : Domain → Option Outcome
 gone d = unmounted_of d.live d.number
 
--- the outcome where its chain has failed by a receipt, if it has
+-- the outcome if its chain has failed by a receipt
 abbrev pub decide : Option ℕ → Domain → Submission → Outcome
 decide failed d sub = unwrap_or (option_or (option_map ChainFailed failed) (gone d)) (judge d sub)
 
@@ -64,7 +64,7 @@ decide failed d sub = unwrap_or (option_or (option_map ChainFailed failed) (gone
 abbrev pub refused : Option ℕ → Domain → Submission → Option Outcome
 refused failed d sub = option_or (option_map ChainFailed failed) (option_or (gone d) (conflict d sub))
 
--- the next commit of the domain: that of the submission, whose receipt counts on from that of the opening
+-- the next commit of the domain, made by the submission; its receipt is counted from that of the opening
 pub record IsNext (d : Domain) (sub : Submission) (c : Commit) : Type 0 where
   pub number : c.number ≡ length d.commits.items
   pub receipt : c.receipt ≡ first_receipt d.commits.items + sub.receipt
@@ -72,7 +72,7 @@ pub record IsNext (d : Domain) (sub : Submission) (c : Commit) : Type 0 where
   pub ops : c.ops.value ≡ sub.changes
   pub trees : (s : Store) → rows_in c.trees s ≡ apply_ops (tip (opening_in d.commits.items) (ops_of d.commits.items) s) s sub.changes
 
--- the domain after a decision: its commits are those before, and that of the submission where it is done
+-- the domain after a decision: the commits before, and the submission's commit if it is done
 pub record Decides (old : Domain) (sub : Submission) (outcome : Outcome) (new : Domain) : Type 0 where
   pub same : IsSame old new
   pub kept : AreKept new.commits.items

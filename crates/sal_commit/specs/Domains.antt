@@ -1,4 +1,4 @@
--- What a domain keeps.
+-- The state of a domain: its schema versions and its commits.
 use Rattle.std.specs.Prelude.{◌≡◌, ◌<◌, vec_capacity, vec_len}
 use Rattle.sal_commit.specs.declared.domain.Domain.{Domain}
 

@@ -1,4 +1,4 @@
--- What a device opens a domain with, and why it is refused.
+-- The opening trees of a device, and why they are refused.
 use Rattle.std.specs.Prelude.{◌≡◌, ◌⊎◌, List, Option, Some}
 use Rattle.std.specs.Option.{option_map, option_or}
 use Rattle.sal_types.specs.declared.value.Store.{Store}
@@ -19,7 +19,7 @@ opening_of_device device s = tree_of_opening device.opening s
 abbrev pub broken : SchemaTable → Store → List Row → Option DomainFault
 broken table s rows = option_map (Broken s) (breach table s rows)
 
--- the configuration counts before the operational store
+-- a fault of the configuration comes before one of the operational store
 abbrev pub fault_over : SchemaTable → (Store → List Row) → Option DomainFault
 fault_over table trees = option_or (broken table Config (trees Config)) (broken table Oper (trees Oper))
 

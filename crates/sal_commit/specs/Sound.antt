@@ -1,4 +1,4 @@
--- Trees that break no structural rule, and what a change keeps of those before it.
+-- Trees that break no structural rule, and which nodes a change keeps.
 use Rattle.std.specs.Prelude.{◌≡◌, ℕ, ◌-◌, List, drop, length, All, None, slice_index_or}
 use Rattle.sal_types.specs.declared.value.Store.{Store}
 use Rattle.sal_schema.specs.declared.table.SchemaTable.{SchemaTable}
@@ -16,10 +16,10 @@ BreakNone table pair = (s : Store) → breach table s (rows_in pair s) ≡ None
 abbrev pub AreSound : SchemaTable → List Commit → Type 0
 AreSound table commits = All (λ (c : Commit). BreakNone table c.trees) commits
 
--- and so do those from the commit of this number on
+-- nor do the trees of the commits from this number on
 abbrev pub AreSoundSince : ℕ → SchemaTable → List Commit → Type 0
 AreSoundSince since table commits = AreSound table (drop since commits)
 
--- both trees keep all nodes of the newest commit's trees but those with the stamps
+-- both trees keep all nodes of the newest commit's trees, except those with the stamps
 abbrev pub KeepNewest : List ℕ → List Commit → Pair → Type 0
 KeepNewest stamps commits trees = (c : Commit) (s : Store) → c ≡ slice_index_or commits (length commits - 1) c → Keeps stamps (tree_in c.trees s) (tree_in trees s)

@@ -1,4 +1,4 @@
--- The versions of a domain's schema, and what goes over to the next one.
+-- The versions of a domain's schema, and its upgrade to the next one.
 use Rattle.std.specs.Prelude.{◌≡◌, ℕ, ◌-◌, ◌⊎◌, List, length, map, Option, Some}
 use Rattle.std.specs.declared.alloc.Global.{Global}
 use Rattle.std.specs.declared.sync.Arc.{Arc}
@@ -21,7 +21,7 @@ tables_of versions = map (λ (v : Arc SchemaTable Global). v.value) versions
 abbrev pub version_in : Domain → ℕ → SchemaTable
 version_in d version = version_from d.first.value (tables_of d.upgrades.items) version
 
--- that of the last one
+-- the table of the last version
 abbrev pub last_in : Domain → SchemaTable
 last_in d = version_in d (length (tables_of d.upgrades.items))
 
@@ -29,15 +29,15 @@ last_in d = version_in d (length (tables_of d.upgrades.items))
 abbrev pub newest_in : Domain → Store → List Row
 newest_in d s = tip (opening_in d.commits.items) (ops_of d.commits.items) s
 
--- why the domain does not go over to this version: a newest tree would break a rule by it, the configuration first
+-- why the domain is not upgraded to this version: a newest tree would break a rule of it; the configuration is checked first
 abbrev pub upgrade_fault : Domain → ℕ → Option DomainFault
 upgrade_fault d version = fault_over (version_in d version) (newest_in d)
 
 abbrev pub IsUpgradeFault : Domain → ℕ → DomainFault → Type 0
 IsUpgradeFault d version fault = (fault ≡ NoMemory) ⊎ (upgrade_fault d version ≡ Some fault)
 
--- The domain after the upgrade to the version: its commits stay, and the newest of them is the one from which on no tree breaks a
--- rule by the new version.
+-- The domain after the upgrade to the version: its commits stay, and from the newest of them on no tree breaks a rule of the new
+-- version.
 pub record Upgrades (old : Domain) (next : ℕ) (new : Domain) : Type 0 where
   pub number : new.number ≡ old.number
   pub live : new.live ≡ old.live

@@ -41,7 +41,7 @@ module _ (commits : List Commit) (following : AreFollowing commits) where
       rising (k - j) j c d at_c (subst (λ i. StandsAt commits i d) far at_d)
 
   module _ (s : Store) (p : List Step) where
-    -- what is at a path in a commit was there in an earlier one too, or has a greater stamp than all that was in that
+    -- a node at a path in a commit was there in an earlier commit too, or has a greater stamp than all nodes of that commit
     since : (n a : ℕ) (c d : Commit) (m : Tree) → StandsAt commits a c → StandsAt commits (a + n) d → at (Some (tree_in d.trees s)) p ≡ Some m
         → (at (Some (tree_in c.trees s)) p ≡ Some m) ⊎ (stamp_of c.receipt < m.stamp)
     since zero a c d m at_c at_d stands = inl (ap (λ (x : Commit). at (Some (tree_in x.trees s)) p) (same_at commits a (a + zero) c d (omega arith) at_c at_d) ∙ stands)

@@ -1,4 +1,4 @@
--- What the stamps of nodes say, over any commits of a domain.
+-- Laws of the stamps of nodes, over any commits of a domain.
 use Rattle.std.specs.Prelude.{◌≡◌, ◌↔◌, ℕ, ◌<◌, ◌≤◌, false, List, length, Option, Some, None, slice_index_or}
 use Rattle.sal_types.specs.declared.value.Store.{Store}
 use Rattle.sal_types.specs.declared.value.Step.{Step}
@@ -36,7 +36,7 @@ OneStampHasOneTree =
     → IsGrove (tree_in c.trees s).kids → IsGrove (tree_in d.trees s).kids → at (Some (tree_in c.trees s)) p ≡ Some n → at (Some (tree_in d.trees s)) p ≡ Some m → n.stamp ≡ m.stamp
     → under (rows_of (tree_in d.trees s)) p ≡ under (rows_of (tree_in c.trees s)) p
 
--- ---- who gave a stamp
+-- ---- the commit that gave a stamp
 
 -- the node's stamp is that of the commit with this number; without a number, the node is the opening's
 abbrev pub IsGivenBy : List Commit → Store → List Step → Tree → Option ℕ → Type 0
@@ -49,9 +49,9 @@ StampsTellTheLastTouch =
     (commits : List Commit) (k : ℕ) (d : Commit) (s : Store) (p : List Step) (n : Tree) → AreKept commits → AreFollowing commits → StandsAt commits k d → at (Some (tree_in d.trees s)) p ≡ Some n
     → IsGivenBy commits s p n (last_touch (opening_in commits) (ops_of commits) s p (record { from = 0; to = k }))
 
--- ---- stamps that are gone, and later ones
+-- ---- old stamps and later ones
 
--- what has one stamp at a path in two commits is there in each commit between
+-- a node with one stamp at a path in two commits is there in each commit between
 abbrev pub StampsNeverComeAgain : Type 0
 StampsNeverComeAgain =
     (commits : List Commit) (i j k : ℕ) (b c d : Commit) (s : Store) (p : List Step) (n m : Tree) → AreFollowing commits → i ≤ j → j ≤ k → StandsAt commits i b → StandsAt commits j c → StandsAt commits k d
@@ -64,13 +64,13 @@ LaterStampsAreNew =
 
 -- ---- views of transactions
 
--- after an opening of receipt 0, no commit has the stamp of a transaction, wherever that was begun
+-- after an opening with receipt 0, no commit has the stamp of a transaction, wherever it began
 abbrev pub ViewStampsAreNoCommits : Type 0
 ViewStampsAreNoCommits =
     (commits : List Commit) (k place : ℕ) (d : Commit) (s : Store) → AreFollowing commits → ((c : Commit) → StandsAt commits 0 c → c.receipt ≡ 0) → StandsAt commits k d
     → HasNo (tx.stamp_of place) (tree_in d.trees s)
 
--- over a base without the transaction's stamp, a node of the view has its base's stamp exactly where the transaction touched nothing
+-- over a base without the transaction's stamp, a node of the view has its base's stamp exactly if the transaction did not touch it
 abbrev pub ViewsDifferWhereTouched : Type 0
 ViewsDifferWhereTouched =
     (place : ℕ) (s : Store) (ops : List Op) (base view : Tree) (p : List Step) (n m : Tree) → IsAfter (tx.stamp_of place) s ops base view → HasNo (tx.stamp_of place) base

@@ -40,7 +40,7 @@ use Rattle.sal_history_laws.proofs.Standing.{at_cell, at_rows}
 use Rattle.sal_history_laws.proofs.Versions.{opening_is, table_is, versions_extend}
 use Rattle.sal_config_laws.specs.Configurations.{BeginWithoutState, ConfigurationsHaveNoState, WritesLeaveNoState, is_config, is_config_row}
 
--- ---- what is not refused
+-- ---- an operation that is not refused
 
 no_first : (a b : Option TxFault) → or_else a b ≡ None → a ≡ None
 no_first None b e = refl
@@ -50,7 +50,7 @@ no_second : (a b : Option TxFault) → or_else a b ≡ None → b ≡ None
 no_second None b e = e
 no_second (Some f) b e = cc
 
--- what holds where nothing is found
+-- the property if nothing is found
 none_found : {X : Type 0} (p : X → Bool) (xs : List X) → find p xs ≡ None → list_all (λ x. not (p x)) xs ≡ true
 none_found p [] e = refl
 none_found p (x ∷ xs) e =
@@ -92,7 +92,7 @@ module _ (table : SchemaTable) where
         | false ↦ λ writes. op_free tree op (allowed writes) mine
       ] refl
 
-  -- those of a list on the configuration have none
+  -- the operations of a list on the configuration have none
   abbrev pub AreFree : List Op → Type 0
   AreFree [] = Unit {0}
   AreFree (op ∷ ops) = (op.store ≡ Config → is_config table (rows_of_act op.act) ≡ true) × AreFree ops
@@ -101,7 +101,7 @@ module _ (table : SchemaTable) where
   lawful_free base earlier [] lawful = tt
   lawful_free base earlier (op ∷ ops) lawful = (λ mine. each_free (apply_ops (base op.store) op.store earlier) op (λ writes. (lawful.0 writes).1) mine, lawful_free base (earlier ++ op ∷ []) ops lawful.1)
 
-  -- ---- what is set
+  -- ---- paths that are set
 
   act_free : (p : List Step) (act : Act) (r : List Step) (c : Cell) → is_config table (rows_of_act act) ≡ true → act_setting p act r ≡ Some (Some c) → not (is_of_state table r) ≡ true
   act_free p (Put rows) r c all e =

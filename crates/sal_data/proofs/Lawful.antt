@@ -156,7 +156,7 @@ module _ (table : SchemaTable) (good : IsTable table) (at : List Step) (rows : L
       let all = values_readable (p ++ Item value ∷ []) Mark marked n (node_of-item p value ∙ node) in
       one-of (IsReadable table n) value [] (subst (λ s. All (IsReadable table n) (step_values s)) (last_step-end p (Item value)) all)
 
-  -- ---- a path has its own row where it is to have one
+  -- ---- a path has its own row if it must have one
 
   abbrev pub HasOwn : List Step → Type 0
   HasOwn p = has_own_row table p ≡ true → (c : Cell) × (cell rows p ≡ Some c)

@@ -59,7 +59,7 @@ module _ (table : SchemaTable) (good : IsTable table) (at : List Step) (rows : L
   abbrev pub Own : List Step → Type 0
   Own p = HasOwn table good at rows whole p
 
-  -- what is written of so many levels reads as the rows
+  -- the JSON that is written with this many levels reads as the rows
   abbrev pub LevelGives : ℕ → Type 0
   LevelGives levels = (p : List Step) (n : ℕ) (here : List Row) → 1 ≤ levels → 32 < levels + length (p ++ Node n ∷ []) → IsPart rows (p ++ Node n ∷ []) here → is_prefix at (p ++ Node n ∷ []) ≡ true
       → Own (p ++ Node n ∷ []) → Gives rows (p ++ Node n ∷ []) (node_rows table n (p ++ Node n ∷ []) (node_json levels table n (length (p ++ Node n ∷ [])) here))

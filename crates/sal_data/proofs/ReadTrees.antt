@@ -1,4 +1,4 @@
--- What is read at a path is whole.
+-- Rows that are read at a path are whole.
 use Rattle.std.proofs.Common.{◌≡◌, inl, inr, ℕ, zero, suc, ◌≤◌, ◌<◌, Bool, true, false, cond, not, ◌&&◌, List, [], ◌∷◌, ◌++◌, length, Option, Some, None, Ok, refl, sym, ap, subst, ◌∙◌, arith}
 use Rattle.std.specs.Prelude.{option_map, ◌||◌, nat_eq}
 use Rattle.std.specs.List.{list_all, slice_get, All}

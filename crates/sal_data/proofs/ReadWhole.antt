@@ -75,7 +75,7 @@ object_is table n seen (array items) s e = cc
 object_is table n seen (object ms) s e = (ms, refl)
 
 module _ (table : SchemaTable) (good : IsTable table) where
-  -- ---- what is read, in order
+  -- ---- the rows read, in order
 
   module _ (path : List Step) (read : List Row) (given : ReadAt table path read) where
     abbrev tree : List Row

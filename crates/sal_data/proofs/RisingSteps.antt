@@ -50,7 +50,7 @@ more (x ∷ y ∷ steps) step rises behind =
 pub rising-more : (steps : List Step) (step : Step) → is_rising steps ≡ true → is_past steps step ≡ true → is_rising (steps ++ step ∷ []) ≡ true
 rising-more steps step rises past = more steps step rises (sym (past-behind steps step) ∙ past)
 
--- ---- what is among lists
+-- ---- elements among lists
 
 any-append : (p : Step → Bool) (xs ys : List Step) → list_any p (xs ++ ys) ≡ (list_any p xs || list_any p ys)
 any-append p [] ys = refl

@@ -1,4 +1,4 @@
--- What is written reads as what it was.
+-- What is written reads as it was.
 use Rattle.std.specs.Prelude.{◌≡◌, ℕ, ◌≤◌, ⊤, not, ◌||◌, List, [], ◌∷◌, ◌++◌, length, Option, Some, None, Ok, is_some, IsTrue}
 use Rattle.std.specs.List.{All}
 use Rattle.serde_json.specs.Data.{Data, null, boolean, number, string, array, object, Items, no_items, item, Members, no_members, member}
@@ -41,7 +41,7 @@ HasReadable table row = (n : ℕ) → node_of row.path ≡ Some n → All (IsRea
 
 -- ---- rows
 
--- the rows of a tree at the path and below it, with one at the path itself where its node has one of its own
+-- the rows of a tree at and below the path, with one at the path itself if its node has its own row
 pub record IsWhole (table : SchemaTable) (path : List Step) (rows : List Row) : Type 0 where
   pub ascending : IsAscending rows
   pub fitting : IsTrue (fits table path rows)
@@ -49,13 +49,13 @@ pub record IsWhole (table : SchemaTable) (path : List Step) (rows : List Row) : 
   pub short : All (λ (row : Row). length row.path ≤ 32) rows
   pub readable : All (HasReadable table) rows
 
--- What is written for the rows at a path reads there as these rows.
+-- The JSON value of the rows at a path reads there as these rows.
 abbrev pub ReadsAsWritten : Type 0
 ReadsAsWritten =
     (table : SchemaTable) → IsTable table → (path : List Step) → IsTrue (fits_path table path) → (rows : List Row) → IsWhole table path rows
     → read_data table path (write_data table path rows) ≡ Ok rows
 
--- What is written of a whole tree at a path reads there as the tree's rows at the path and below it.
+-- The JSON value of a tree at a path reads there as the tree's rows at and below the path.
 abbrev pub TreesReadAsWritten : Type 0
 TreesReadAsWritten =
     (table : SchemaTable) → IsTable table → (tree : List Row) → IsWhole table [] tree → (path : List Step) → IsTrue (fits_path table path)
@@ -69,7 +69,7 @@ ReadsWhole =
     (table : SchemaTable) → IsTable table → (path : List Step) → IsTrue (fits_path table path) → length path ≤ 32 → (json : Data) → IsJson json → (rows : List Row)
     → read_data table path json ≡ Ok rows → IsWhole table path rows
 
--- What is written for what was read reads as the same rows.
+-- The JSON value of rows that were read reads as the same rows.
 abbrev pub ReadsAgain : Type 0
 ReadsAgain =
     (table : SchemaTable) → IsTable table → (path : List Step) → IsTrue (fits_path table path) → length path ≤ 32 → (json : Data) → IsJson json → (rows : List Row)

@@ -11,7 +11,7 @@ use Rattle.sal_json.specs.Named.{is_colon}
 use Rattle.sal_data.specs.declared.fault.DataFault.{DataFault}
 use Rattle.sal_data.specs.declared.fault.DataFault.TheVariants.{UnknownMember, NeedsModule}
 
--- A name is written with its module at the top, and if its module differs from that of the node above.
+-- A name is written with its module at the top, and if its module differs from that of its parent.
 abbrev pub is_qualified : SchemaTable → Option ℕ → ℕ → Bool
 is_qualified table None n = true
 is_qualified table (Some p) n = not (is_same (module_of table n) (module_of table p))
@@ -49,7 +49,7 @@ abbrev pub is_of_some_module : SchemaTable → Option ℕ → List ℕ → Bool
 is_of_some_module table None name = true
 is_of_some_module table (Some p) name = list_any (λ m. is_some (child_of table (Some p) m name)) table.modules
 
--- A name without a module needs one in the top object, and where it is that of a child of another module.
+-- A name without a module requires one in the top object, and if it is that of a child of another module.
 abbrev pub name_fault : SchemaTable → Option ℕ → List Step → List ℕ → DataFault
 name_fault table parent path name = if not (has_module name) && is_of_some_module table parent name then NeedsModule path name else UnknownMember path name
 

@@ -24,7 +24,7 @@ use Rattle.sal_data.specs.declared.fault.DataFault.{DataFault}
 use Rattle.sal_data.specs.declared.fault.DataFault.TheVariants.{WrongShape, MissingKey, KeyDiffers, DoubleEntry, BadScalar, TooDeep}
 use Rattle.sal_data.specs.Members.{member_name, member_node}
 
--- what is read: rows in the order of the text, or the first fault
+-- the result of reading: rows in the order of the text, or the first fault
 abbrev pub Reading : Type 0
 Reading = Result (List Row) DataFault
 
@@ -32,7 +32,7 @@ Reading = Result (List Row) DataFault
 abbrev pub followed : List Row → Reading → Reading
 followed rows rest = rest >>= λ more. Ok (rows ++ more)
 
--- a mark at the path, if it has one, and what is read below it
+-- a mark at the path, if it has one, and the rows below it
 abbrev pub marked : Bool → List Step → Reading → Reading
 marked true path rest = followed (record { path = path; cell = Mark } ∷ []) rest
 marked false path rest = rest
@@ -155,7 +155,7 @@ abbrev mutual
 abbrev pub before_last : List Step → List Step
 before_last path = take (length path - 1) path
 
--- what is read where the entry of the JSON value is the one that was asked for
+-- the rows, if the entry of the JSON value is the requested one
 abbrev pub if_asked : List Step → Step → Reading → Step → Reading
 if_asked path asked rows step = if same_step step asked then rows else Err (KeyDiffers path)
 
@@ -175,7 +175,7 @@ rows_at table path (Some (Item value)) json = option_map_or (item_rows table pat
 abbrev pub in_order : List Row → List Row
 in_order rows = fold set_row [] rows
 
--- The rows that the JSON value at the path denotes. Of its faults the first counts, depth first: at each value its shape, the
+-- The rows that the JSON value at the path denotes, or its first fault, depth first: at each value its shape, the
 -- keys or the value of an entry, another entry than the one of the path, an entry that was there before, and then the
 -- members.
 abbrev pub read_data : SchemaTable → List Step → Data → Reading

@@ -1,4 +1,4 @@
--- What a text denotes. A JSON value that was read from a text needs no condition. For one that a program made itself, the laws of
+-- The rows of a text. A JSON value that was read from a text needs no condition. For one that a program made itself, the laws of
 -- `Laws` require that each name occurs once in its object, and that its strings are bytes (`IsJson`).
 use Rattle.std.specs.Prelude.{◌≡◌, ℕ, ◌≤◌, List, length, Some, Ok, IsTrue, IsUtf8}
 use Rattle.serde_json.specs.Data.{Data}
@@ -18,7 +18,7 @@ TextsReadWhole =
     (table : SchemaTable) → IsTable table → (path : List Step) → IsTrue (fits_path table path) → length path ≤ 32 → (text : List ℕ) → IsUtf8 text → (json : Data)
     → read text ≡ Some json → (rows : List Row) → read_data table path json ≡ Ok rows → IsWhole table path rows
 
--- What is written for them reads as the same rows.
+-- The JSON value of these rows reads as the same rows.
 abbrev pub TextsReadAgain : Type 0
 TextsReadAgain =
     (table : SchemaTable) → IsTable table → (path : List Step) → IsTrue (fits_path table path) → length path ≤ 32 → (text : List ℕ) → IsUtf8 text → (json : Data)

@@ -19,7 +19,7 @@ use Rattle.sal_json.specs.Written.{json_of}
 use Rattle.sal_data.specs.Members.{member_name}
 use Rattle.sal_data.specs.Read.{same_step}
 
--- Below, k is how many steps lead to a place, and rows are those of a tree at the place and below it, in the order of their
+-- Below, k is the number of steps to a place, and rows are those of a tree at and below the place, in the order of their
 -- paths. So rows with the same next step are adjacent.
 
 -- ---- runs of rows
@@ -62,7 +62,7 @@ leaf_json table n (row ∷ rows) = cell_json table n row.cell
 
 -- ---- trees
 
--- what gives the value of a node from its place and its rows
+-- the value of a node from its place and its rows
 abbrev pub Writer : Type 0
 Writer = ℕ → ℕ → List Row → Data
 
@@ -98,7 +98,7 @@ abbrev pub entries_json : SchemaTable → ℕ → Writer → ℕ → List (List 
 entries_json table n f k [] = []
 entries_json table n f k (run ∷ runs) = entry_json table n f k (step_of k run) run ++ entries_json table n f k runs
 
--- the value of a node, below which rows are at most so many nodes deep
+-- the value of a node with at most this many levels of nodes
 unfoldable pub node_json : ℕ → SchemaTable → Writer
 node_json zero table n k rows = null
 node_json (suc levels) table n k rows =

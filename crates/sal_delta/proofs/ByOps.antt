@@ -58,7 +58,7 @@ prefixes_meet (x ∷ p) (y ∷ q) (z ∷ r) g h apart =
     and_both (eq_by_cmp step_cmp x y) (is_prefix p q) (step_itself x y (xz ∙ sym yz))
     (prefixes_meet p q r (second_so (eq_by_cmp step_cmp x z) (is_prefix p r) g) (second_so (eq_by_cmp step_cmp y z) (is_prefix q r) h) rest)
 
--- ---- what changes say of one path, where f is what they have to say
+-- ---- the changes at one path, where f gives the cells before and after
 
 -- they say nothing or that, and they say that where the path is set
 record Says (set : Bool) (f o : Option (Option Cell × Option Cell)) : Type 0 where

@@ -1,4 +1,4 @@
--- What a merge says of each path; it is the list of changes.
+-- The cells of a merge at each path; it is the list of changes.
 use Rattle.std.proofs.Common.{◌≡◌, true, false, List, [], ◌∷◌, ◌++◌, Option, Some, None, map, refl, ap, sym, ◌∙◌, subst, if◌then◌else◌}
 use Rattle.std.specs.Prelude.{T}
 use Rattle.std.specs.Ordering.{match_ordering, is_eq, is_lt, ordering_reverse}

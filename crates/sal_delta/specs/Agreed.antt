@@ -1,4 +1,4 @@
--- Commits of which each two neighbours agree.
+-- Commits that agree pairwise with their neighbours.
 use Rattle.std.specs.Prelude.{◌≡◌, ℕ, ◌+◌, ◌<◌, List, length, slice_index_or}
 use Rattle.sal_tree.specs.Follows.{Agree}
 use Rattle.sal_tree.specs.declared.commit.Commit.{Commit}

@@ -1,4 +1,4 @@
--- What the operations of a commit lead to: how the code goes. Contracts above speak of `changes_under` in its place.
+-- The changes of a commit from its operations, as the code computes them. Contracts of crates above use `changes_under` instead.
 use Rattle.std.specs.Prelude.{List, [], ◌∷◌, Option, flat_map, if◌then◌else◌}
 use Rattle.sal_types.specs.declared.value.Store.{Store}
 use Rattle.sal_types.specs.declared.value.Step.{Step}
@@ -21,7 +21,7 @@ change_of r c d = if same_cell c d then [] else record { path = r; before = c; a
 abbrev pub found_at : List Row → List Row → List Step → List Change
 found_at before after r = change_of r (cell before r) (cell after r)
 
--- at the path of a row, if that lies under p
+-- at the path of a row, if it is under p
 abbrev pub found_of_row : List Row → List Row → List Step → Row → List Change
 found_of_row before after p row = if is_prefix p row.path then found_at before after row.path else []
 

@@ -1,4 +1,4 @@
--- Changes in the order of their paths, where of those with one path the last counts.
+-- Changes in the order of their paths; of those with the same path the last counts.
 use Rattle.std.specs.Prelude.{List, [], ◌∷◌, Option}
 use Rattle.std.specs.List.{fold}
 use Rattle.std.specs.FinMap.{put}

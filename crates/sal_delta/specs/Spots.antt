@@ -18,7 +18,7 @@ abbrev pub spots : List Place → List Spot
 spots [] = []
 spots (p ∷ ps) = (p.step.now, (tree_at p.before, tree_at p.after)) ∷ spots ps
 
--- what the first of the children give: the places where they differ, and how many of each were compared
+-- the result for the first of the children: the places where they differ, and how many of each were compared
 abbrev pub pair_of : Step × Tree → Step × Tree → List Spot × (ℕ × ℕ)
 pair_of e f = ((if e.1.stamp == f.1.stamp then [] else ((e.0, (Some e.1, Some f.1)) ∷ [])), (1, 1))
 
@@ -44,7 +44,7 @@ abbrev pub IsKid : Option Tree → Step → Option Tree → Type 0
 IsKid o x None = Unit {0}
 IsKid o x (Some t) = kid o x ≡ Some t
 
--- each place has children of the two nodes, of one at least
+-- each place has children of the two nodes, at least of one
 abbrev pub AreSpots : Option Tree → Option Tree → List Spot → Type 0
 AreSpots o u [] = Unit {0}
 AreSpots o u (s ∷ ss) = (IsKid o s.0 s.1.0 × IsKid u s.0 s.1.1 × ((is_some s.1.0 || is_some s.1.1) ≡ true)) × AreSpots o u ss
@@ -58,6 +58,6 @@ pub record Stands (o : Option Tree) (n : ℕ) : Type 0 where
   pub sound : IsSound o
   pub low : depth_of o + n ≤ 32
 
--- two nodes at one path with one stamp are the same, counted from two nodes on
+-- below these two nodes, nodes at one path with one stamp are the same
 abbrev pub AgreeFrom : Option Tree → Option Tree → Type 0
 AgreeFrom o u = (r : List Step) (n m : Tree) → at o r ≡ Some n → at u r ≡ Some m → n.stamp ≡ m.stamp → n ≡ m

@@ -1,4 +1,4 @@
--- A client meets a step by its slots alone: with other replies it meets it the same.
+-- A client meets a step only by its slots: with other replies it meets it in the same way.
 use Rattle.std.proofs.Common.{◌≡◌, ℕ, Bool, true, false, List, [], ◌∷◌, Option, None, Some, Result, Ok, Err, if◌then◌else◌, refl, ap, sym, ◌∙◌}
 use Rattle.serde_json.specs.Data.{Data}
 use Rattle.sal_types.specs.declared.value.Store.{Store}
@@ -28,7 +28,7 @@ use Rattle.sal_script.specs.Tables.{Versions, has_domain, has_upgrade, last_in}
 use Rattle.sal_script.specs.Services.{OrRefusal, answer, collect, invoke, mount, mount_at, offer, provide, subscribe, withdraw}
 use Rattle.sal_embed.specs.Broker.{answering}
 
--- the same answer, of the client with these replies
+-- the same answer, for the client with these replies
 abbrev pub lift : List StepReply → Meeting → Meeting
 lift rs (local r next) = local r (answering rs next)
 lift rs (shared call) = shared call
@@ -168,7 +168,7 @@ module _ (rs : List StepReply) where
     meet_same (After mark) = refl
     meet_same (Upgrade version) = upgrade_same client (has_upgrade tables version) version
 
-  -- what an answer leaves in the slots is the same too
+  -- the slots after an answer are the same too
   pub keep_same : (spot : Spot) (step : Move) (r : Reply) (client : Client) → keep spot step r (answering rs client) ≡ answering rs (keep spot step r client)
   keep_same spot (Begin slot domain mode) (Begun commit on) client = refl
   keep_same spot (ChainBegin chain slot mode) (Begun commit on) client = refl

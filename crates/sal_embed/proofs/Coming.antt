@@ -38,7 +38,7 @@ module _ (lasts : TokensLast) (known : HubHistory) (e : Entry) where
   caller_other : (c : ℕ) (caller : Caller) → (e.client ≡ c → ⊥) → IsCaller known c caller → IsCaller (more known e) c caller
   caller_other c caller other is = record { number = is.number; held = held_other c caller.run other is.held }
 
--- what others are, after at most one entry of client c
+-- the other clients, after at most one entry of client c
 module _ (lasts : TokensLast) (known known' : HubHistory) (c : ℕ) (grows : GrowsAtMost c known known') where
   pub caller_beside : (k : ℕ) (caller : Caller) → (k ≡ c → ⊥) → IsCaller known k caller → IsCaller known' k caller
   caller_beside k caller other is = ⊎_elim

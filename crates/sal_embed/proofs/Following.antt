@@ -135,7 +135,7 @@ module _ (tables : List SchemaTable) (old new : Clients) (hub : new.hub ≡ old.
   pub follow_loses : LosesNone old new
   follow_loses k = follow_lost tables old.hub old.callers.items new.callers.items follow k
 
-  -- the report, or want of memory
+  -- the report, or that memory ran out
   pub follow_reports : (result : Result (List ℕ) Wanting) → AreTold new.callers.items → ((text : List ℕ) → result ≡ Ok text → text ≡ report_with old.hub (map lines_in new.callers.items)) → Reports old new result
   follow_reports (Err wanting) told writes = (follow_same, follow_loses)
   follow_reports (Ok text) told writes = (

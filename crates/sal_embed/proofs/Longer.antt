@@ -40,7 +40,7 @@ module _ (tables : List Versions) (world : List Domain) (steps : List Move) wher
     make_on log (ended client) made is = cc
     make_on log (calls call step run) made is = ap made_on is
 
-    -- the same entries of its own, and the same run with the steps after
+    -- the same entries of the client, and the same run with the steps after
     pass_on : (made next : Made) (e : Entry) → pass tables world c made e ≡ Some next → pass tables world c (made_of made.log (before steps made.run)) e ≡ Some (made_of next.log (before steps next.run))
     pass_on made next e is = by (nat_eq e.client c) is
       where

@@ -55,7 +55,7 @@ module _ (tables : List Versions) (known : HubHistory) (step : Move) (old new : 
       by (local r next) met on = (r, next, inl (met, refl), sym (ap (client_at next) on))
       by (shared call) met on = cc
 
-  -- it made a call: the step asks for it
+  -- the step made a shared call
   pub by_call : (known' : HubHistory) (rest : List Move) → go tables known.world known.log old.number (record { client = client_of old; steps = step ∷ [] }) ≡ Some (record { log = known'.log; run = record { client = client_of new; steps = rest } })
       → GrowsBy old.number known known' → IsAnswered tables step known old known' new
   by_call known' rest went grown = by (meet tables known.world known.log (client_of old) step) refl went

@@ -1,4 +1,4 @@
--- What a broker is opened from: a script without clients and order, and its world.
+-- The input of a broker: a script without clients and order, and its world.
 use Rattle.std.proofs.Common.{◌≡◌, ℕ, zero, suc, ◌<◌, ◌≤◌, List, [], ◌∷◌, Option, None, Some, Result, Ok, Err, length, refl, ap, sym, ◌∙◌, subst, arith}
 use Rattle.std.specs.Prelude.{codes, slice_get}
 use Rattle.std.specs.declared.alloc.Global.{Global}
@@ -63,7 +63,7 @@ module _ (it : Prepared) where
       ap (λ (xs : List (List Move)). without (codes "clients") xs (without (codes "order") it.parts.order (Ok it))) clients
       ∙ ap (λ (xs : List ℕ). let made : Result Prepared Status = without (codes "order") xs (Ok it) in made) order
 
--- what was opened has the world of what was prepared
+-- an opened script has the world of the prepared one
 pub opened_world : (bytes : List ℕ) (it : Prepared) → prepared bytes ≡ Ok it → bare it ≡ Ok it → world_of (opened bytes) ≡ Ok it.world
 opened_world bytes it made is = ap (λ (r : Result Prepared Status). world_of (r >>= bare)) made ∙ ap world_of is
 
@@ -75,7 +75,7 @@ pub opened_bad : (bytes : List ℕ) (it : Prepared) (status : Status) → prepar
 opened_bad bytes it status made is =
     bind_fault (opened bytes) (λ (p : Prepared). Ok p.world) status (subst (λ (r : Result Prepared Status). IsStatusOf (r >>= bare) status) (sym made) is)
 
--- and whether reads are checked, likewise
+-- and whether reads are checked is the same
 pub opened_reads : (bytes : List ℕ) (it : Prepared) → prepared bytes ≡ Ok it → bare it ≡ Ok it → reads_of (opened bytes) ≡ Ok it.parts.checked
 opened_reads bytes it made is = ap (λ (r : Result Prepared Status). reads_of (r >>= bare)) made ∙ ap reads_of is
 

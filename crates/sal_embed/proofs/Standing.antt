@@ -1,4 +1,4 @@
--- A client after a step of its own, and after a call of another.
+-- A client after one of its own steps, and after a call of another client.
 use Rattle.std.proofs.Common.{◌≡◌, ◌⊎◌, ⊎_elim, ℕ, ◌<◌, List, [], ◌∷◌, ◌++◌, length, Option, None, Some, refl, ap, sym, ◌∙◌, subst, append-nil}
 use Rattle.std.specs.Prelude.{MatchOption, ⊤, string_bytes}
 use Rattle.std.specs.Option.{option_map}
@@ -45,7 +45,7 @@ module _ (tables : List Versions) (c : ℕ) (step : Move) (r : StepReply) (known
       ap (λ (client : Client). client.replies) (h.1.kept ∙ keep_same old.replies (spot_after known.world known.log) step q old ∙ ap (answering old.replies) (sym h.1.kept)))
       answers
 
--- ---- a step of its own
+-- ---- one of its own steps
 
 module _ (c : ℕ) (steps : List Move) (step : Move) where
   -- the client with these replies, which was at the end of its program
@@ -68,9 +68,9 @@ module _ (c : ℕ) (steps : List Move) (step : Move) where
       (subst (λ (x : Client). IsAt tables known.world c (steps ++ step ∷ []) (known.log ++ entry_at tables known.world c known.log call ∷ []) (record { client = x; steps = [] })) client made))
       answers
 
--- ---- what is kept of it
+-- ---- its state
 
--- what is known of a client that has a run
+-- the state of a client that has a run
 abbrev pub kept_by : Client → Option ClientRun → Type 0
 kept_by client run = MatchOption run ⊤ (λ (it : ClientRun). client ≡ answering client.replies (client_of it.client))
 

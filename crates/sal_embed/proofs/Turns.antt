@@ -26,7 +26,7 @@ use Rattle.sal_embed.specs.Callers.{Fails, GoesOn, IsEmptied, IsFinished, IsForg
 use Rattle.sal_embed.proofs.Standing.{kept_by}
 use Rattle.sal_embed.proofs.Telling.{lines-push}
 
--- ---- what every client is
+-- ---- the state of every client
 
 -- the world stays
 pub same_world : (c : ℕ) (known known' : HubHistory) → GrowsAtMost c known known' → known'.world ≡ known.world
@@ -97,7 +97,7 @@ emptied_kept client None (Some b) is kept = absurd is
 emptied_kept client (Some a) None is kept = absurd is
 
 module _ (tables : List SchemaTable) (old mid new : Caller) (r : StepReply) where
-  -- its line is added, and then it is let go of
+  -- its line is added, and then it is dropped
   pub told_follows : mid.number ≡ old.number → mid.run ≡ old.run → mid.told ≡ old.told + 1 → string_bytes mid.lines ≡ string_bytes old.lines ++ reply_line tables old.number old.told r → untold old ≡ r ∷ [] → IsForgotten mid new → Follows tables old new
   told_follows number run one line waits gone = record {
     number = gone.number ∙ number;
@@ -183,7 +183,7 @@ module _ (tables : List SchemaTable) (known known' : HubHistory) (old before aft
         (same.stands steps rs (subst (λ (n : ℕ). StandsAt known n steps rs before) (sym first.number) (first.stands known steps rs of at)));
   }
 
--- nothing was made, and a reply may have been written
+-- no step was made, and a reply may have been written
 pub stays_told : (tables : List SchemaTable) (known : HubHistory) (old new : Caller) → tables ≡ tables_of known.world → Follows tables old new → IsSameAt known old known new
 stays_told tables known old new of follows = record { hub = refl; stands = λ steps rs at. follows.stands known steps rs of at }
 

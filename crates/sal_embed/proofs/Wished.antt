@@ -1,4 +1,4 @@
--- A wish that can be made asks for a shared call; so a client with such a wish is the one whose next step it is.
+-- A wish that can be made is a shared call; so a client with such a wish is the one whose next step is the call.
 use Rattle.std.proofs.Common.{◌≡◌, ℕ, Bool, true, false, List, [], ◌∷◌, Option, None, Some, Result, Ok, Err, if◌then◌else◌, refl, ap, sym, ◌∙◌}
 use Rattle.std.specs.Prelude.{IsSome, option_map}
 use Rattle.sal_types.specs.declared.value.Store.{Store}
@@ -40,7 +40,7 @@ use Rattle.sal_client.specs.Wishes.{CanMake, CanRpc, MountReadBy, NoteReadBy, Re
 abbrev IsShared : Meeting → Type 0
 IsShared m = (call : Call) × (m ≡ shared call)
 
--- ---- what is in the slots
+-- ---- values in the slots
 
 submit_mode : (tx : Open) (mode : Mode) (client : Client) → standing_in mode ≡ Writable → IsShared (submit_in tx mode client)
 submit_mode tx Ro client is = cc
@@ -81,7 +81,7 @@ module _ (client : Client) where
   collect_is None is = cc
   collect_is (Some id) is = (made.Collect (request_of id), refl)
 
-  -- ---- what was read
+  -- ---- values that were read
 
   asked_is : (found : OrRefusal Call) (call : Call) → found ≡ Ok call → IsShared (ask found client)
   asked_is found call is = (call, ap (λ (it : OrRefusal Call). ask it client) is)
@@ -150,7 +150,7 @@ module _ (tables : List Versions) (world : List Domain) (log : List Entry) (old 
   abbrev arrived : ClientState → Move → List Move → Meeting → Arrival
   arrived c s steps m = arrive_by (λ next. arrive tables world log next steps) (λ call. calls call s (record { client = client_of c; steps = steps })) m
 
-  -- a client that comes by a step to the wish is the same client
+  -- a client that has the wish after a step is the same client
   pub asks_as_before : CanMake wish mid → ReadBy tables wish → arrive tables world log (client_of old) (step ∷ []) ≡ arrive tables world log (client_of mid) (move_by wish ∷ rest) → client_of mid ≡ client_of old
   asks_as_before can read same = by (meet tables world log (client_of old) step) (same ∙ ap (arrived mid (move_by wish) rest) asks.1)
     where

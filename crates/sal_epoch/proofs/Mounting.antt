@@ -27,13 +27,13 @@ use Rattle.sal_epoch.specs.Mounts.{Follows, live_after, live_among, mount_of, mo
 -- ---- one call
 
 module _ {calls : List MountCall} {old new : Register} {made : List Mount} (was : Follows calls old made) where
-  -- what was mounted after the call
+  -- the mounts after the call
   told : (call : MountCall) (reply : MountReply) → Makes old new call reply → mounted (made_of old.devices calls ++ record { call = call; reply = reply } ∷ []) ≡ mounted (made_of new.devices (calls ++ call ∷ []))
   told call reply makes =
       ap mounted (sym (made-more old.devices calls call reply (makes.answer calls was.register)))
       ∙ ap (λ n. mounted (made_of n (calls ++ call ∷ []))) (sym makes.devices)
 
-  -- a call that mounts nothing
+  -- a call that mounts no device
   pub unmoved : (call : MountCall) (reply : MountReply) → Makes old new call reply → mounts call reply ≡ None → Follows (calls ++ call ∷ []) new made
   unmoved call reply makes none = record {
     register = makes.longer calls was.register;
@@ -52,11 +52,11 @@ module _ {calls : List MountCall} {old new : Register} {made : List Mount} (was 
 
 -- ---- a log
 
--- before the first call nothing is mounted
+-- before the first call no device is mounted
 pub nothing_listed : (r : Register) (made : List Mount) → IsOf [] r → made ≡ [] → Follows [] r made
 nothing_listed r made register none = record { register = register; all = ap (map mount_of) none }
 
--- ---- those that are live
+-- ---- the live ones
 
 cond_on : (b : Bool) (m : Mounted) (ms : List Mounted) → cond b (m ∷ []) [] ++ ms ≡ cond b (m ∷ ms) ms
 cond_on true m ms = refl
@@ -86,7 +86,7 @@ left-so known r made (Err e) many follows found = tt
 pub live_more : (live : ℕ → Bool) (made : List Mount) (i : ℕ) (m : Mount) → i < length made → m ≡ slice_index_or made i m → with_live live (live_among live (take i made)) m ≡ live_among live (take (i + 1) made)
 live_more live made i m inside here = ap (λ x. with_live live (live_among live (take i made)) x) here ∙ sym (fold_more (with_live live) [] made i m inside)
 
--- what holds where a call is good
+-- a property that holds if a call is accepted
 pub on_ok : {T E P Q : Type 0} (result : Result T E) → (P → Q) → OnOk result P → OnOk result Q
 on_ok (Ok x) f p = f p
 on_ok (Err e) f p = tt

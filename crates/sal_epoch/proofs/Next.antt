@@ -63,7 +63,7 @@ device-closed known n device closed schema config oper = record {
   oper = (λ i. is_closed (schema i) (oper i)) ∙ newest-closed known n Oper closed;
 }
 
--- what the device of a domain is
+-- the device of a domain
 module _ (known : HubHistory) (n : ℕ) (domain : Kept) (is : IsDomain known n domain) where
   abbrev HasSchema : Device → Type 0
   HasSchema device = device.schema.value ≡ domain.schema.value

@@ -15,7 +15,7 @@ use Rattle.sal_follow.specs.Exporting.{patch_of, frame_on, Puts, AreBetween}
 use Rattle.sal_follow.specs.Laws.{StreamsGoOnAfter}
 use Rattle.sal_follow.specs.Framed.{Trees, nothing, before_at, frame_of, frames_from, frames, frames_on, frames_since, frame_bytes, bytes_of, exported, patch_by, patches, too_long, AreTexts, ExportsOn}
 
--- what a fault that is handed on leaves
+-- the result of a fault that is passed on
 pub err_so : {X E : Type 0} (P : Result X E → Type 0) (result : Result X E) (e : E) → IsErrAnd result (λ d. d ≡ e) → P (Err e) → P result
 err_so P (Ok x) e is holds = absurd is
 err_so {X} {E} P (Err d) e is holds = subst (λ (f : E). P (Err f)) (sym is) holds
@@ -40,7 +40,7 @@ set_by : (rows : List Row) → map patch_by (map come rows) ≡ map patch_of row
 set_by [] = refl
 set_by (row ∷ rows) = ap (λ rest. patch_of row ∷ rest) (set_by rows)
 
--- what leads to a first tree sets each of its rows
+-- the patches of a first tree set each of its rows
 pub opening : (rows : List Row) → IsAscending rows → map patch_of rows ≡ patches [] rows
 opening rows ascending = sym (set_by rows) ∙ ap (map patch_by) (merge-changes [] rows refl ascending)
 
@@ -106,7 +106,7 @@ goes-on table trees k inside =
     ∙ ap (λ m. bytes_of table (frames (take k trees) ++ frames_from m (before_at trees k) (drop k trees))) (sym from)
     ∙ ap (bytes_of table) (split-at 0 nothing trees k inside)
 
--- one that goes on after its last frame
+-- one that continues after its last frame
 append-frames : (k : ℕ) (before : Trees) (trees : List Trees) (last : Trees) (more : List Trees)
     → frames_from k before (trees ++ last ∷ []) ++ frames_from (k + length trees + 1) last more ≡ frames_from k before (trees ++ last ∷ more)
 append-frames k before [] last more = let here : k + 0 + 1 ≡ k + 1 = omega arith in ap (λ m. frame_of k before last ∷ frames_from m last more) here

@@ -1,4 +1,4 @@
--- What is exported is followed.
+-- An exported stream is followed.
 use Rattle.std.proofs.Common.{◌≡◌, ◌⊎◌, inl, inr, ℕ, suc, ◌+◌, ◌<◌, ◌≤◌, ◌&&◌, Bool, true, false, not, List, [], ◌∷◌, ◌++◌, length, drop, Option, Some, None, All, refl, ap, sym, subst, ◌∙◌, length-append, arith, if◌then◌else◌}
 use Rattle.std.specs.Prelude.{option_and_then, nat_le}
 use Rattle.std.specs.List.{slice_get}
@@ -69,7 +69,7 @@ no_broken n e = cc
 whole_size : (m n : ℕ) → Whole m ≡ Whole n → m ≡ n
 whole_size m n e = cc
 
--- of a frame that is not all there nothing is judged
+-- an incomplete frame is not judged
 not_all : (text rest bytes more : List ℕ) → length text ≤ max_text → bytes ++ more ≡ framed text ++ rest → length bytes < size_of (length text) → front bytes ≡ Part
 not_all text rest bytes more small same few = by (front bytes) refl
   where
@@ -112,7 +112,7 @@ module _ (table : SchemaTable) where
 
   -- ---- all frames
 
-  -- What a follower holds that came from commit k on: the trees before it, with the version v, or those of one of these commits.
+  -- A follower's state from commit k on: the trees before it, with the version v, or those of one of these commits.
   abbrev Reached : ℕ → Option ℕ → Trees → List Trees → Held → Type 0
   Reached k v before trees h = (h.fault ≡ None) × (((h.version ≡ v) × (trees_held h ≡ before)) ⊎ ((j : ℕ) × (h.version ≡ Some (k + j)) × (slice_get trees j ≡ Some (trees_held h))))
 

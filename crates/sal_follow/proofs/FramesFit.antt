@@ -23,7 +23,7 @@ use Rattle.sal_follow.specs.declared.frame.Frame.{Frame}
 use Rattle.sal_follow.specs.Frames as spec
 use Rattle.sal_follow.specs.States.{FrameFits}
 
--- what an option gives by a function
+-- the result of a function on an option
 given : {A B : Type 0} (f : A → Option B) (o : Option A) (y : B) → option_and_then f o ≡ Some y → (x : A) × (o ≡ Some x) × (f x ≡ Some y)
 given f None y e = cc
 given f (Some x) y e = (x, refl, e)
@@ -39,7 +39,7 @@ paired f a b y e =
     let (z, has, e2) = mapped (f x) b y e1 in
     (x, z, is, has, e2)
 
--- what passes a test
+-- a value that passes a test
 tested : {A : Type 0} (b : Bool) (x y : A) → (if b then Some x else None) ≡ Some y → (b ≡ true) × (x ≡ y)
 tested true x y e = (refl, cc)
 tested false x y e = cc

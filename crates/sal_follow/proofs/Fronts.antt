@@ -1,4 +1,4 @@
--- What bytes begin with stays when more bytes come.
+-- A judged front of bytes stays when more bytes come.
 use Rattle.std.proofs.Common.{◌≡◌, inl, inr, ℕ, ◌+◌, ◌-◌, ◌<◌, ◌≤◌, ◌&&◌, ◌==◌, Bool, true, false, List, [], ◌∷◌, ◌++◌, length, take, drop, Option, Some, None, if◌then◌else◌, refl, ap, sym, ◌∙◌, arith, get_or, length-append, length-drop}
 use Rattle.std.specs.Prelude.{nat_le, nat_lt, slice_index}
 use Rattle.std.specs.List.{list_all}
@@ -26,7 +26,7 @@ head_stays x y long = λ i. head_by (take-append-le 8 x y (omega arith) i) (get_
 abbrev body_by : ℕ → ℕ → ℕ → Front
 body_by n len c = if nat_lt n len then (if c == 10 then Whole n else Broken) else Part
 
--- where the first nine bytes are there
+-- if there are nine bytes or more
 front-long : (x : List ℕ) → 9 ≤ length x → front x ≡ option_map_or (body (drop 9 x)) (head_of x) Broken
 front-long x long = let e : nat_lt (length x) 9 ≡ false = grind (arith, nat_tests) in ap (λ b. if b then Part else option_map_or (body (drop 9 x)) (head_of x) Broken) e
 
@@ -79,7 +79,7 @@ zero_left n = omega arith
 
 -- ---- more bytes
 
--- what is judged stays so
+-- a front that is judged stays
 pub stays : (x y : List ℕ) → (front x ≡ Part → ⊥) → front (x ++ y) ≡ front x
 stays x y judged = elim (cases_lt (length x) 9) [
   | inl few ↦ absurd (judged (front-short x few))
@@ -157,7 +157,7 @@ behind_head : (x y : List ℕ) (n : ℕ) → length x ≡ 9 → drop (n + 10) (x
 behind_head x y n nine =
     ap (λ k. drop k (x ++ y)) (omega arith) ∙ sym (drop-drop (n + 1) (length x) (x ++ y)) ∙ ap (drop (n + 1)) (drop-all x y)
 
--- after a list and so many more
+-- after a list and `k` more elements
 drop-past : (x y : List ℕ) (k : ℕ) → drop (length x + k) (x ++ y) ≡ drop k y
 drop-past x y k = sym (drop-drop k (length x) (x ++ y)) ∙ ap (drop k) (drop-all x y)
 

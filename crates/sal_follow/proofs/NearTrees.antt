@@ -20,7 +20,7 @@ not-true true e = cc
 not-true false e = refl
 
 module _ (table : SchemaTable) (config oper : List Row) (cs os : List Patch) where
-  -- what the code tests
+  -- the test of the code
   pub trees-near : IsAscending config → IsAscending oper → are_trees table config oper ≡ true → patches_fit table cs ≡ true → patches_fit table os ≡ true
       → are_trees table (patched config cs) (patched oper os)
       ≡ ((are_near table (patched config cs) cs && not (leave_state table (patched config cs) cs)) && are_near table (patched oper os) os)
@@ -29,7 +29,7 @@ module _ (table : SchemaTable) (config oper : List Row) (cs os : List Patch) whe
       let (cclosed, stateless) = and_parts (is_closed table config) (not (has_state table config)) first in
       λ i. (near-closed table config cs up cclosed cfit i && not (state-near table config cs (not-true (has_state table config) stateless) i)) && near-closed table oper os on oclosed ofit i
 
--- and what it answers
+-- and its answer
 pub judged-near : (table : SchemaTable) (before after : Both) (f : Frame) (b : Bool) → IsAscending before.config → IsAscending before.oper → are_trees table before.config before.oper ≡ true → FrameFits table f
     → after.config ≡ patched before.config f.config → after.oper ≡ patched before.oper f.oper
     → b ≡ ((are_near table after.config f.config && not (leave_state table after.config f.config)) && are_near table after.oper f.oper)

@@ -45,7 +45,7 @@ module _ (table : SchemaTable) where
       by_number true = by_trees (are_trees table config oper)
       by_number false = took_failed h size (Gap (next h.version) f.commit)
 
-  -- ---- no more than came
+  -- ---- no more bytes than were fed
 
   one_byte : (h : Held) (b : ℕ) → (after_byte table h b).at + length (after_byte table h b).rest ≤ h.at + length h.rest + 1
   one_byte h b = by_fault (is_some h.fault)
@@ -78,9 +78,9 @@ module _ (table : SchemaTable) where
       let rest : (followed table (after_byte table h b) bytes).at + length (followed table (after_byte table h b) bytes).rest ≤ (after_byte table h b).at + length (after_byte table h b).rest + length bytes = no_more (after_byte table h b) bytes in
       omega arith
 
-  -- ---- as many, without a fault
+  -- ---- exactly as many, without a fault
 
-  -- as many bytes as before, and these
+  -- the bytes before, and these
   abbrev Counts : Held → ℕ → Held → Type 0
   Counts s more h = s.at + length s.rest ≡ h.at + length h.rest + more
 

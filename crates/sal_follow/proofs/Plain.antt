@@ -1,4 +1,4 @@
--- What is written for a frame has no floating-point number, and nests no deeper than a reader goes.
+-- A value written for a frame has no floating-point number, and is not nested deeper than a reader accepts.
 use Rattle.std.proofs.Common.{◌≡◌, ℕ, ◌+◌, ◌≤◌, ℤ, pos, negsuc, max, Bool, true, false, ◌||◌, List, [], ◌∷◌, map, Option, Some, None, decimal, refl, arith, if◌then◌else◌}
 use Rattle.std.specs.Fmt.{signed_decimal}
 use Rattle.std.specs.List.{slice_get}
@@ -25,7 +25,7 @@ use Rattle.sal_data.specs.Written.{scalar_json}
 use Rattle.sal_follow.specs.declared.frame.Frame.{Frame}
 use Rattle.sal_follow.specs.Written.{keys_json, value_json, step_json, steps_json, path_json, cell_json, patch_json, store_json, frame_json}
 
--- no float, and nested so many times at most
+-- no float, and a depth of at most `k`
 abbrev Plain : ℕ → Data → Type 0
 Plain k d = (has_float d ≡ false) × (depth d ≤ k)
 

@@ -1,4 +1,4 @@
--- What leads from one readable tree to the next reads as it is written.
+-- The changes from one readable tree to the next read as they are written.
 use Rattle.std.proofs.Common.{◌≡◌, ℕ, ◌≤◌, ◌&&◌, ◌||◌, Bool, true, false, not, List, [], ◌∷◌, map, length, Option, Some, None, All, filter, fold, cond, true≢false, refl, ap, sym, subst, ◌∙◌, if◌then◌else◌}
 use Rattle.std.specs.Prelude.{⊤, T, option_map, option_and_then}
 use Rattle.std.specs.List.{list_all}
@@ -44,7 +44,7 @@ use Rattle.sal_follow.proofs.ReadsBack.{path-read, cell-read}
 
 -- ---- lists
 
--- it holds of each element, one after another
+-- it holds of each element
 abbrev pub Every : {A : Type 0} → (A → Type 0) → List A → Type 0
 Every P [] = ⊤
 Every P (x ∷ xs) = P x × Every P xs
@@ -98,7 +98,7 @@ module _ (P : Row → Type 0) where
   at_first row rows p c it rest true same is = subst P (λ i. record { path = sym (same_path p row.path same) i; cell = same_some row.cell c is i }) it
   at_first row rows p c it rest false other is = rest is
 
-  -- what is true of each row is true of the one at a path
+  -- a property of each row is one of the row at a path
   at_path : (rows : List Row) (p : List Step) (c : Cell) → Every P rows → cell rows p ≡ Some c → P (record { path = p; cell = c })
   at_path [] p c all e = absurd (none_some c e)
   at_path (row ∷ rows) p c all e = at_first row rows p c all.0 (at_path rows p c all.1) (path_eq p row.path) refl e
@@ -126,7 +126,7 @@ module _ (table : SchemaTable) where
         good_rows tree rows here.1 all.1,
       )
 
-  -- where a cell fits, the node has a row of its own
+  -- if a cell fits, the node has its own row
   own_row : (path : List Step) (c : Cell) → cell_fits table path c ≡ true → has_own_row table path ≡ true
   own_row path Mark e = ap (λ b. b || is_at_leaf table (last_step path)) e
   own_row path (Leaf value) e = by (last_step path) e

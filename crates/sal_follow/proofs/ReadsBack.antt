@@ -130,7 +130,7 @@ module _ (table : SchemaTable) where
   err-no_ok : (r : Result Value ScalarFault) (value : Value) → r ≡ Err WrongKind → r ≡ Ok value → ⊥
   err-no_ok r value err ok = cc
 
-  -- what reads as a value is not null
+  -- JSON that reads as a value is not null
   not-null : (n : ℕ) (d : Data) (value : Value) → node_scalar table n d ≡ Ok value → is_some (as_null d) ≡ false
   not-null n null value e = absurd (err-no_ok (node_scalar table n null) value (node-null n) e)
   not-null n d value e = refl

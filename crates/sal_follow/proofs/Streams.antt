@@ -1,4 +1,4 @@
--- What is held after bytes, frame by frame.
+-- The follower's state after bytes, frame by frame.
 use Rattle.std.proofs.Common.{◌≡◌, ℕ, List, [], ◌∷◌, ◌++◌, length, drop, Option, None, if◌then◌else◌, refl, ap, sym, subst, ◌∙◌, append_assoc}
 use Rattle.std.specs.Prelude.{is_some}
 use Rattle.std.specs.List.{fold, concat}
@@ -34,7 +34,7 @@ module _ (table : SchemaTable) (h : Held) (going : h.fault ≡ None) where
   abbrev pub at_rest : List ℕ → Held
   at_rest r = record h { rest = r }
 
-  -- what is held after more bytes, if these are all bytes from the unfinished frame on, and what they begin with
+  -- the state after more bytes, if `all` has all bytes from the unfinished frame on, and what they begin with
   abbrev Said : List ℕ → List ℕ → List ℕ → Front → Type 0
   Said r bytes all Part = followed table (at_rest r) bytes ≡ at_rest all
   Said r bytes all Broken = followed table (at_rest r) bytes ≡ failed h (BadFrame h.at)
@@ -81,7 +81,7 @@ unfolding followed
 pieces table h [] = refl
 pieces table h (p ∷ ps) = pieces table (followed table h p) ps ∙ sym (fold-append (after_byte table) h p (concat ps))
 
--- with nothing of a frame so far
+-- with no byte of a frame so far
 same_rest : (h : Held) → h.rest ≡ [] → record h { rest = [] } ≡ h
 same_rest h none = λ i. record h { rest = sym none i }
 

@@ -1,4 +1,4 @@
--- What is reported at the end of a stream.
+-- The report at the end of a stream.
 use Rattle.std.proofs.Common.{◌≡◌, ℕ, List, Option, Some, Result, Ok, Err, ap, ◌∙◌, subst}
 use Rattle.std.specs.Option.{option_map_or}
 use Rattle.sal_schema.specs.declared.table.SchemaTable.{SchemaTable}
@@ -30,7 +30,7 @@ fault_as made fault (BadExport commit) is told = absurd told
 faulty : (table : SchemaTable) (h : Held) (fault : FollowFault) → h.fault ≡ Some fault → told table h ≡ Err (fault_status fault)
 faulty table h fault is = ap (λ (o : Option FollowFault). option_map_or (λ f. Err (fault_status f)) o (told_end table h h.version h.rest)) is
 
--- want of memory is reported as that
+-- missing memory has its own status
 no_text : (text : List ℕ) → fault_status Wanting ≡ BadStream text → ⊥
 no_text text e = cc
 
@@ -57,12 +57,12 @@ told_fault stream old new (BadFrame at) status taken is =
 told_fault stream old new (Gap want got) status taken is =
     fault_as (told old.schema (followed old.schema fresh stream)) (Gap want got) status (faulty old.schema (followed old.schema fresh stream) (Gap want got) taken) is
 
--- the same by the table that the follower reads by
+-- the same by the table of the follower
 pub told_fault_by : (table : SchemaTable) (stream : List ℕ) (old new : Following) (fault : FollowFault) (status : Status) → old.schema ≡ table → IsTaken stream old new (Err fault) → IsFaultStatus fault status
     → IsTextStatus (told table (followed table fresh stream)) status
 told_fault_by table stream old new fault status by taken is = subst (λ (t : SchemaTable). IsTextStatus (told t (followed t fresh stream)) status) by (told_fault stream old new fault status taken is)
 
--- what is reported of the follower's state is the report of the stream
+-- the report of the follower's state is the report of the stream
 pub told_taken : (table : SchemaTable) (stream : List ℕ) (old new : Following) (result : Result (List ℕ) Status) → old.schema ≡ table → IsTaken stream old new (Ok tt) → IsTextOr (told table new.held) result
     → IsTextOr (told table (followed table fresh stream)) result
 told_taken table stream old new result by taken is =

@@ -11,7 +11,7 @@ use Rattle.sal_follow.proofs.Counted.{joined}
 use Rattle.sal_follow.proofs.Feeding.{stays-faulty}
 use Rattle.sal_follow_script.specs.Taken.{IsTaken}
 
--- so many bytes of the stream were taken without a fault
+-- `fed` bytes of the stream were taken without a fault
 pub record IsFed (stream : List ℕ) (start : Following) (now : Following) (fed : ℕ) : Type 0 where
   pub held : now ≡ record { schema = start.schema; held = followed start.schema fresh (take fed stream) }
   pub going : now.held.fault ≡ None
@@ -112,7 +112,7 @@ pub all_fed : (stream : List ℕ) (start now : Following) (fed : ℕ) → IsFed 
 all_fed stream start now fed is all =
     (is.held ∙ ap (λ bs. record { schema = start.schema; held = followed start.schema fresh bs }) (take_all fed stream all), is.going)
 
--- then what is held has counted its bytes
+-- then the follower has counted its bytes
 pub counted : PlacesCountBytes → (stream : List ℕ) (old new : Following) → IsTaken stream old new (Ok tt) → new.held.at + length new.held.rest ≡ length stream
 counted places stream old new taken =
     let same : new.held ≡ followed old.schema fresh stream = ap (λ (f : Following). f.held) taken.0 in

@@ -68,7 +68,7 @@ leader known d is =
     let long : length kept ≡ length done + 1 = kept_long kept is.kept.opened ∙ ap (λ (os : List (List Op)). length os + 1) is.commits in
     each ∙ ap (λ n. map (trees_by known.world known.log) (range_with_len 0 n)) long
 
--- what is exported of them is exported of the log
+-- the frames of the commits are the frames of the log
 pub exported_log : (known : HubHistory) (d : Kept) (table : SchemaTable) (result : Result (List ℕ) Status) → IsDomain known 0 d → table ≡ last_of known.world 0
     → IsTextOr (frames_by table (map trees_of d.commits.items)) result → IsTextOr (export_log known.world known.log) result
 exported_log known d table result is same told =

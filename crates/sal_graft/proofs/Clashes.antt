@@ -30,7 +30,7 @@ use Rattle.sal_rows.proofs.Untouched.{or_first, or_second}
 
 -- ---- operation by operation
 
--- what is left of the operations from an index on
+-- the remaining operations from an index on
 pub clash_from-at : (opening : Store → List Row) (commits : List (List Op)) (rules : Rules) (base : Store → List Row) (spans : List Span) (ops : List Op) (i : ℕ) (op : Op) → i < length ops → op ≡ get_or ops i op
     → clash_from opening commits rules base spans (take i ops) (drop i ops) ≡ option_or (op_clash opening commits rules base spans (take i ops) op) (clash_from opening commits rules base spans (take (i + 1) ops) (drop (i + 1) ops))
 clash_from-at opening commits rules base spans ops i op h at =
@@ -53,7 +53,7 @@ no-reads opening commits spans earlier (op ∷ ops) h =
     ap (λ b. option_or (if b && not (is_covered earlier op.store op.path) then option_map (conflict_at (length earlier) op) (difference opening commits op.store spans op.path) else None) (reads_from opening commits spans (earlier ++ op ∷ []) ops)) (or_first (is_read op.act) (has_reads ops) h)
     ∙ no-reads opening commits spans (earlier ++ op ∷ []) ops (or_second (is_read op.act) (has_reads ops) h)
 
--- a read is no write, so that the walk over the writes leaves it out
+-- a read is not a write, so the walk over the writes skips it
 pub read-no_write : (opening : Store → List Row) (commits : List (List Op)) (rules : Rules) (base : Store → List Row) (spans : List Span) (earlier : List Op) (op : Op) → is_read op.act ≡ true
     → op_clash opening commits rules base spans earlier op ≡ None
 read-no_write opening commits rules base spans earlier op = of op.act
@@ -64,7 +64,7 @@ read-no_write opening commits rules base spans earlier op = of op.act
     of Delete e = cc
     of Read e = elim rules as (λ r. op_clash opening commits r base spans earlier (record { store = op.store; path = op.path; act = Read }) ≡ None) [ One ↦ refl | Two ↦ refl ]
 
--- what is left after a read
+-- the remaining operations after a read
 pub clash_from-past : (opening : Store → List Row) (commits : List (List Op)) (rules : Rules) (base : Store → List Row) (spans : List Span) (ops : List Op) (i : ℕ) (op : Op) → i < length ops → op ≡ get_or ops i op
     → is_read op.act ≡ true → clash_from opening commits rules base spans (take i ops) (drop i ops) ≡ clash_from opening commits rules base spans (take (i + 1) ops) (drop (i + 1) ops)
 clash_from-past opening commits rules base spans ops i op h at reads =

@@ -1,4 +1,4 @@
--- Over a span without commits nothing is changed.
+-- A span without commits changes no path.
 use Rattle.std.proofs.Common.{◌≡◌, ◌-◌, ℕ, Bool, true, false, List, refl, ap, sym, ◌∙◌, arith}
 use Rattle.std.specs.List.{list_any}
 use Rattle.sal_types.specs.declared.value.Store.{Store}

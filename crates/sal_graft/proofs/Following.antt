@@ -1,4 +1,4 @@
--- What the stamp of a node tells of the commits before it.
+-- What follows from the stamp of a node about the commits before it.
 use Rattle.std.proofs.Common.{◌≡◌, ℕ, zero, suc, ◌+◌, ◌-◌, ◌<◌, ◌≤◌, true, false, List, length, get_or, Option, None, Some, refl, ap, sym, subst, ◌∙◌, cond, arith, reverse}
 use Rattle.std.specs.Prelude.{find}
 use Rattle.std.proofs.lemmas.List.{get_or_default}
@@ -53,8 +53,8 @@ module _ (kept : List Commit) (are : AreKept kept) (following : AreFollowing kep
   same_at k j c d is short at_c at_d = at_c ∙ get_or_default kept k c d short ∙ ap (λ i. get_or kept i d) is ∙ sym at_d
 
   module _ (s : Store) (p : List Step) where
-    -- What the commits between c, of the number a, and d, n numbers on, tell by the last of them that touched the path: where none did, the
-    -- same node stands there, and else what stands there has the stamp of that one.
+    -- The commits after c (number a) up to d (n numbers later), by the last of them that touched the path: if none did, the node at the path
+    -- is the same; else the node there has the stamp of that commit.
     abbrev pub Tells : ℕ → ℕ → Commit → Commit → Option ℕ → Type 0
     Tells a n c d None = at (Some (tree_in d.trees s)) p ≡ at (Some (tree_in c.trees s)) p
     Tells a n c d (Some k) = (a < k) × (k ≤ a + n) × ((e : Commit) (m : Tree) → e ≡ get_or kept k e → at (Some (tree_in d.trees s)) p ≡ Some m → m.stamp ≡ stamp_of e.receipt)

@@ -49,7 +49,7 @@ pub chains_of-push : (kept : List Commit) (c : Commit) → 1 ≤ length kept →
 chains_of-push [] c h = absurd (omega arith)
 chains_of-push (opening ∷ commits) c h = chains-push commits c
 
--- a tree at a commit stays when a later one comes
+-- a tree at a commit stays when a later commit is added
 tree_at-push : (opening : Store → List Row) (ops : List (List Op)) (new : List Op) (s : Store) (k : ℕ) → k ≤ length ops → tree_at opening (ops ++ new ∷ []) s k ≡ tree_at opening ops s k
 tree_at-push opening ops new s k h = ap (tree_after s (opening s)) (take-append-le k ops (new ∷ []) h)
 
@@ -92,7 +92,7 @@ module _ (kept : List Commit) (last next : Commit) (are : AreKept kept) (numbere
       ap (λ (x : Commit). x.number) (is ∙ ap (λ i. get_or (kept ++ next ∷ []) i c) h ∙ get_or-append_seam kept next [] c)
       ∙ numbered ∙ sym h
 
-  -- a commit behind the last one, with the next number, whose trees are those of the last one after its operations
+  -- a commit after the last one, with the next number, whose trees are those of the last one after its operations
   pub AreKept-push : AreKept (kept ++ next ∷ [])
   AreKept-push = record {
     opened = omega (arith, length-append kept (next ∷ []));

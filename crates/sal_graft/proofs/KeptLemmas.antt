@@ -1,4 +1,4 @@
--- What kept commits say of the plain list of their operations.
+-- Kept commits and the plain list of their operations.
 use Rattle.std.proofs.Common.{◌≡◌, ℕ, zero, suc, ◌+◌, ◌-◌, ◌<◌, ◌≤◌, List, [], ◌∷◌, ◌++◌, length, take, get_or, Some, refl, ap, sym, ◌∙◌, arith}
 use Rattle.std.specs.Prelude.{slice_get}
 use Rattle.std.proofs.lemmas.List.{take_all, take_more}
@@ -33,7 +33,7 @@ pub ops_at : (kept : List Commit) (k : ℕ) (c : Commit) → suc k < length kept
 ops_at [] k c h e = absurd (omega arith)
 ops_at (opening ∷ commits) k c h e = get_ops commits k c (omega arith) e
 
--- what code asks of a commit and the one before it
+-- the test of the code for a commit and the one before it
 pub touches_at-kept : (kept : List Commit) (number : ℕ) (before c : Commit) (s : Store) (p : List Step) → AreKept kept → 1 ≤ number → number < length kept → before ≡ get_or kept (number - 1) before → c ≡ get_or kept number c → touches_at (opening_in kept) (ops_of kept) s p number ≡ touches (rows_in before.trees s) s c.ops.value p
 touches_at-kept kept zero before c s p are low high at_before at_c = absurd (omega arith)
 touches_at-kept kept (suc k) before c s p are low high at_before at_c =

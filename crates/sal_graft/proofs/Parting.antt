@@ -28,7 +28,7 @@ chain_at : (kept : List Commit) (k : ℕ) (c : Commit) → suc k < length kept �
 chain_at [] k c h e = absurd (omega arith)
 chain_at (opening ∷ commits) k c h e = get_chain commits k c (omega arith) e
 
--- what code asks of a commit
+-- the test of the code for a commit
 pub is_own-kept : (chain : Option ℕ) (kept : List Commit) (number : ℕ) (c : Commit) → 1 ≤ number → number < length kept → c ≡ get_or kept number c → is_own chain (chains_of kept) number ≡ is_of_chain chain c.chain
 is_own-kept chain kept zero c low high e = absurd (omega arith)
 is_own-kept chain kept (suc k) c low high e =
@@ -37,7 +37,7 @@ is_own-kept chain kept (suc k) c low high e =
 
 -- ---- the commits of a chain
 
--- what is of no chain has no commits of its own
+-- a submission without a chain has no own commits
 none-own : (chains : List (Option ℕ)) (numbers : List ℕ) → filter (is_own None chains) numbers ≡ []
 none-own chains [] = refl
 none-own chains (n ∷ numbers) = none-own chains numbers
@@ -67,7 +67,7 @@ own-end chain chains k h = let none : length chains - (k - 1) ≡ 0 = omega arit
 abbrev pub parted_from : List Span → ℕ → Option ℕ → List (Option ℕ) → ℕ → List Span
 parted_from done from chain chains k = done ++ spans_between from (own_commits (k - 1) chain chains) (length chains)
 
--- nothing is done
+-- no span so far
 pub parted-none : (base : ℕ) (chain : Option ℕ) (chains : List (Option ℕ)) → parted_from [] base chain chains (base + 1) ≡ spans base chain chains
 parted-none base chain chains = let e : base + 1 - 1 ≡ base = omega arith in ap (λ k. spans_between base (own_commits k chain chains) (length chains)) e
 
@@ -78,13 +78,13 @@ parted-own done from chain chains k low high own =
     append_assoc done (record { from = from; to = k - 1 } ∷ []) (spans_between k (own_commits (k + 1 - 1) chain chains) (length chains))
     ∙ sym (ap (λ cs. done ++ spans_between from cs (length chains)) (own-more chain chains k low high ∙ ap (λ b. cond b (k ∷ own_commits (k + 1 - 1) chain chains) (own_commits (k + 1 - 1) chain chains)) own))
 
--- and no other does
+-- and no other one does
 pub parted-other : (done : List Span) (from : ℕ) (chain : Option ℕ) (chains : List (Option ℕ)) (k : ℕ) → 1 ≤ k → k ≤ length chains → is_own chain chains k ≡ false
     → parted_from done from chain chains (k + 1) ≡ parted_from done from chain chains k
 parted-other done from chain chains k low high own =
     sym (ap (λ cs. done ++ spans_between from cs (length chains)) (own-more chain chains k low high ∙ ap (λ b. cond b (k ∷ own_commits (k + 1 - 1) chain chains) (own_commits (k + 1 - 1) chain chains)) own))
 
--- the last one goes to the newest commit
+-- the last one ends at the newest commit
 pub parted-end : (done : List Span) (from : ℕ) (chain : Option ℕ) (chains : List (Option ℕ)) (k : ℕ) → length chains < k
     → done ++ record { from = from; to = length chains } ∷ [] ≡ parted_from done from chain chains k
 parted-end done from chain chains k h = sym (ap (λ cs. done ++ spans_between from cs (length chains)) (own-end chain chains k h))

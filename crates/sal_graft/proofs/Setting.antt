@@ -1,4 +1,4 @@
--- What operations touch and set, as the search asks it.
+-- The paths that operations touch and set, as the search tests them.
 use Rattle.std.proofs.Common.{◌≡◌, Bool, true, false, List, [], ◌∷◌, ◌&&◌, ◌||◌, Option, Some, None, refl, ap, sym, ◌∙◌, if◌then◌else◌}
 use Rattle.std.specs.Prelude.{is_some}
 use Rattle.std.specs.Option.{option_or}
@@ -34,7 +34,7 @@ delete-touches t s p q g = cleared t p q g ∙ clears-any t p q (act_setting p D
 pub untouched-by_read : (t : Tree) (s : Store) (p q : List Step) → false ≡ op_touches (rows_of t) (record { store = s; path = p; act = Read }) q
 untouched-by_read t s p q = sym (read-touches (rows_of t) p q)
 
--- ---- what is set
+-- ---- paths that are set
 
 either : (x y : Option (Option Cell)) → is_some (option_or x y) ≡ (is_some y || is_some x)
 either None None = refl

@@ -27,7 +27,7 @@ use Rattle.sal_tree.proofs.Spans.{same_test}
 other_test : (a b : ℕ) → a < b → (a == b) ≡ false
 other_test a b e = grind (arith, nat_tests)
 
--- Of two nodes, where they are the same if nothing touched them, and else the later one has the greater stamp.
+-- Two nodes that are the same if no commit touched them; else the later one has the greater stamp.
 alike-unchanged : (o u : Option Tree) (touched : Bool) → (touched ≡ false → u ≡ o) → (touched ≡ true → (n m : Tree) → o ≡ Some n → u ≡ Some m → n.stamp < m.stamp)
     → alike (filled o) (filled u) ≡ unchanged_by (present o) (present u) touched
 alike-unchanged None None b kept new = refl
@@ -85,14 +85,14 @@ module _ (kept : List Commit) (are : AreKept kept) (following : AreFollowing kep
 
   -- ---- the commit that gave a stamp
 
-  -- What a search by halves finds for a limit: the first commit of the span, its start counted, whose receipt is not below it, or its end.
+  -- The result of a binary search for a limit: the first commit of the span, its start included, whose receipt is not below it, or its end.
   pub record IsFirst (limit number : ℕ) : Type 0 where
     pub low : span.from ≤ number
     pub high : number ≤ span.to
     pub before : (c : Commit) → span.from < number → c ≡ get_or kept (number - 1) c → c.receipt < limit
     pub here : (c : Commit) → number < span.to → c ≡ get_or kept number c → limit ≤ c.receipt
 
-  -- that commit touched the path last, or none did where it is the start
+  -- that commit touched the path last, or none did if it is the start
   first-at : (number : ℕ) (c d : Commit) (n : Tree) → IsFirst (n.stamp / 2) number → c ≡ get_or kept span.from c → d ≡ get_or kept span.to d → at (Some (tree_in d.trees s)) p ≡ Some n
       → (if number == span.from then None else Some number) ≡ last_touch (opening_in kept) (ops_of kept) s p span
   first-at number c d n first at_c at_d stands = by (last_touch (opening_in kept) (ops_of kept) s p span) (told c d at_c at_d)

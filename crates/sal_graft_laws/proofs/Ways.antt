@@ -1,4 +1,4 @@
--- Paths on the way to others, and what a commit touches.
+-- Prefixes of paths, and what a commit touches.
 use Rattle.std.proofs.Common.{◌≡◌, ℕ, zero, suc, ◌+◌, ◌*◌, ◌<◌, ◌≤◌, Bool, true, false, List, [], ◌∷◌, ◌++◌, ◌&&◌, ◌||◌, length, map, get_or, Some, refl, ap, sym, subst, ◌∙◌, arith, if◌then◌else◌}
 use Rattle.std.specs.Prelude.{All, Contains, is_some}
 use Rattle.std.specs.List.{filter, list_any}

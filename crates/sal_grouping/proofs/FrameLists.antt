@@ -35,7 +35,7 @@ module _ (rows : List Row) (named : List (Option ℕ)) (owner : ℕ) where
   grow-more zero parent forest seeds h = absurd (omega arith)
   grow-more (suc n) parent forest seeds h = let less : suc n - 1 ≡ n = omega arith in rw less (grow-suc n parent forest seeds)
 
-  -- ---- it grows at its end alone
+  -- ---- it grows only at its end
 
   fold-length : (step : List Node → Seed → List Node) → ((forest : List Node) (seed : Seed) → length forest + 1 ≤ length (step forest seed)) → (forest : List Node) (seeds : List Seed)
       → length forest + length seeds ≤ length (fold step forest seeds)

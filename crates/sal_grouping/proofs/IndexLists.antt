@@ -1,4 +1,4 @@
--- Tables beside the list of statements, from one statement to the next.
+-- Tables parallel to the list of statements, from one statement to the next.
 use Rattle.std.proofs.Common.{◌≡◌, ◌≢◌, ℕ, zero, suc, ◌+◌, ◌<◌, ◌==◌, ◌&&◌, List, [], ◌∷◌, ◌++◌, length, take, get_or, Bool, true, false, not, Some, if◌then◌else◌, refl, ◌∙◌, sym, ap, inl, inr, arith, get_or-set_other, get_or-set_same, append-nil}
 use Rattle.std.proofs.Math.ListN.{set}
 use Rattle.std.specs.Prelude.{Vec}

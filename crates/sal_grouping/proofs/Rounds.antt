@@ -1,4 +1,4 @@
--- What has no way of falling ranks to a target does not reach it.
+-- An element without a path of falling ranks to a target does not reach it.
 use Rattle.std.proofs.Common.{◌≡◌, ℕ, zero, suc, ◌==◌, ◌<◌, ◌≤◌, nat_lt, nat_le, Bool, true, false, ◌||◌, length, List, [], ◌∷◌, get_or, Option, Some, None, refl, ap, ◌∙◌, inl, inr, arith}
 use Rattle.std.specs.Prelude.{Vec, IfSome}
 use Rattle.std.specs.List.{list_any, list_all}

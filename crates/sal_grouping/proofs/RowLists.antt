@@ -8,7 +8,7 @@ use Rattle.sal_module.specs.Statements.{subs_of}
 use Rattle.sal_grouping.specs.declared.rows.Row.{Row}
 use Rattle.sal_grouping.specs.Rows.{part_of, row_of, with_rows, rows_of}
 
--- what stands in a block, so many levels deep
+-- the rows of a block, this many levels deep
 abbrev pub in_block : ℕ → ℕ → ℕ → List Row → List Stmt → List Row
 in_block levels m number rows subs = fold (λ below sub. with_rows levels m (Some number) below sub) rows subs
 

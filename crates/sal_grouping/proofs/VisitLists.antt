@@ -29,7 +29,7 @@ none-map f p each (x ∷ xs) all =
     let (one, more) = and-true (p x) (list_all p xs) all in
     rw (each x one) (none-map f p each xs more)
 
--- ---- what a statement adds
+-- ---- the nodes that a statement adds
 
 module _ (f : ℕ → List ℕ) (rows : List Row) (named : List (Option ℕ)) (k : ℕ) where
   pub at-node : is_node (keyword_at rows k) ≡ true → nodes_at f rows named k ≡ k ∷ []
@@ -96,7 +96,7 @@ module _ (rows : List Row) (named : List (Option ℕ)) (v : Visit) (k : ℕ) (vi
   left-pushed : all_left rows named pushed ≡ left_of rows named after ++ all_left rows named visits
   left-pushed = ap (all_left rows named) push ∙ all_left-last rows named visits after
 
-  -- its nodes stand before what is left
+  -- its nodes are before the remaining ones
   pub step-later : (later : List Visit) (c : List ℕ) → nodes_at (nodes_within v.levels rows named) rows named k ≡ c → all_left rows named later ≡ c ++ all_left rows named pushed
       → out ++ all_left rows named later ≡ out ++ (left_of rows named v ++ all_left rows named visits)
   step-later later c is left =

@@ -1,4 +1,4 @@
--- Nodes of one name where names differ (RFC 7950 section 6.2.1).
+-- Nodes whose name is not unique in its scope (RFC 7950 section 6.2.1).
 use Rattle.std.specs.Prelude.{ℕ, zero, suc, Bool, not, ◌&&◌, ◌||◌, List, [], length, Option, Some, None, is_some, unwrap_or, if◌then◌else◌}
 use Rattle.std.specs.List.{slice_get, flat_map, enumerate_from, position_from}
 use Rattle.sal_module.specs.declared.keyword.Keyword.TheVariants.{Choice, Case}
@@ -20,7 +20,7 @@ is_choice rows node = is_keyword Choice (kind_of rows node)
 abbrev pub is_case : List Row → Node → Bool
 is_case rows node = is_keyword Case (kind_of rows node)
 
--- what stands above a choice or a case
+-- the parent of a choice or a case
 abbrev pub above : List Row → Option Node → Option (Option ℕ)
 above rows None = None
 above rows (Some node) = if is_choice rows node || is_case rows node then Some node.parent else None
@@ -29,17 +29,17 @@ abbrev pub passed : List Row → List Node → Option ℕ → Option (Option ℕ
 passed rows forest None = None
 passed rows forest (Some k) = above rows (slice_get forest k)
 
--- The closest node among so many, from this one upwards, that is no choice and no case: they are looked through.
+-- The closest node that is neither choice nor case, in at most n steps from this one upwards.
 unfoldable pub data_parent : ℕ → List Row → List Node → Option ℕ → Option ℕ
 data_parent zero rows forest place = place
 data_parent (suc n) rows forest place =
     if is_some (passed rows forest place) then data_parent n rows forest (unwrap_or (passed rows forest place) None) else place
 
--- where a node's name differs from others: a case's in its choice, another node's below its data parent
+-- the scope of a node's name: a case's is its choice, another node's is its data parent
 abbrev pub scope_of : List Row → List Node → Node → Option ℕ
 scope_of rows forest node = if is_case rows node then node.parent else data_parent (length forest) rows forest node.parent
 
--- what tells nodes apart: whether it is a case, its scope, its module and its name
+-- what must differ between two nodes: whether it is a case, its scope, its module and its name
 abbrev pub key_of : List Row → List Node → Node → Key
 key_of rows forest node = record { case = is_case rows node; scope = scope_of rows forest node; «module» = node.module; name = name_of rows node }
 
@@ -49,7 +49,7 @@ key_cmp = (key_ord.ghosts).cmp
 abbrev pub same_key : Key → Key → Bool
 same_key = eq_by_cmp key_cmp
 
--- A choice has no name among data nodes.
+-- The name of a choice is not one of a data node.
 abbrev pub has_key : List Row → List Node → Key → Node → Bool
 has_key rows forest key node = not (is_choice rows node) && same_key key (key_of rows forest node)
 

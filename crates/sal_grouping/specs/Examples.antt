@@ -1,4 +1,4 @@
--- Modules for the examples, and words for what they give.
+-- Modules for the examples, and their nodes.
 use Rattle.std.specs.Prelude.{ℕ, List, [], ◌∷◌, Option, Result, Ok, Err}
 use Prim.Native.String.{String}
 use Rattle.sal_stmt.specs.declared.stmt.Stmt.{Stmt}
@@ -16,7 +16,7 @@ of_module subs = plain "module" 0 "m" subs ∷ []
 abbrev pub leaf : ℕ → String → Stmt
 leaf at name = plain "leaf" at name []
 
--- a node of that module: its parent, the place of its statement, and what is implied
+-- a node of that module: its parent, the offset of its statement, and its implied kind
 abbrev pub branch : Option ℕ → ℕ → Option Implied → Branch
 branch parent at implied = record { parent = parent; «module» = 0; source = 0; at = at; implied = implied }
 
@@ -31,7 +31,7 @@ refused cause at = Err (fault 0 at cause)
 abbrev pub a_uses : List Stmt
 a_uses = of_module (plain "grouping" 10 "g" (leaf 20 "a" ∷ []) ∷ plain "uses" 30 "g" [] ∷ [])
 
--- the inner grouping counts
+-- the inner grouping is used
 abbrev pub a_shadow : List Stmt
 a_shadow = of_module (plain "grouping" 10 "g" (leaf 20 "a" ∷ []) ∷ plain "container" 30 "c" (plain "uses" 35 "g" [] ∷ plain "grouping" 40 "g" (leaf 50 "b" ∷ []) ∷ []) ∷ [])
 
@@ -41,7 +41,7 @@ a_choice = of_module (plain "choice" 10 "c" (leaf 20 "a" ∷ plain "case" 30 "b"
 abbrev pub an_rpc : List Stmt
 an_rpc = of_module (plain "rpc" 10 "r" (plain "output" 20 "" (leaf 30 "a" ∷ []) ∷ []) ∷ [])
 
--- the first augment's target comes from the second one
+-- the second augment makes the target of the first
 abbrev pub two_augments : List Stmt
 two_augments = of_module (plain "container" 10 "c" [] ∷ plain "augment" 20 "/c/d" (leaf 30 "x" ∷ []) ∷ plain "augment" 40 "/c" (plain "container" 50 "d" [] ∷ []) ∷ [])
 
@@ -64,6 +64,6 @@ two_groupings = of_module (plain "grouping" 10 "g" [] ∷ plain "typedef" 20 "g"
 abbrev pub no_target : List Stmt
 no_target = of_module (leaf 10 "a" ∷ plain "augment" 20 "/a" (leaf 30 "b" ∷ []) ∷ [])
 
--- the choice is looked through
+-- the choice is not part of the scope
 abbrev pub two_children : List Stmt
 two_children = of_module (plain "choice" 10 "a" (leaf 20 "a" ∷ []) ∷ leaf 30 "a" ∷ [])

@@ -1,4 +1,4 @@
--- The tree of modules that passed: their nodes, or the first fault. Each part is judged only where those before it found nothing.
+-- The tree of checked modules: their nodes, or the first fault. Each check runs only if those before it found nothing.
 use Rattle.std.specs.Prelude.{ℕ, nat_lt, List, map, length, Option, Some, None, Result, Ok, Err, if◌then◌else◌}
 use Rattle.std.specs.List.{slice_get}
 use Rattle.sal_types.specs.Reading.{◌>>=◌}
@@ -22,11 +22,11 @@ abbrev pub judged : {X : Type 0} → X → Option Found → Result X BuildFault
 judged x None = Ok x
 judged x (Some found) = Err (fault_of found)
 
--- this, where there is no fault, and else the least
+-- x if there is no fault, and else the least
 abbrev pub unless_any : {X : Type 0} → List Found → X → Result X BuildFault
 unless_any faults x = judged x (least None faults)
 
--- the place of the statement from which a node is
+-- the place of the statement of a node
 abbrev pub source_of : Option Row → ℕ
 source_of None = 0
 source_of (Some row) = row.module
@@ -40,7 +40,7 @@ branch_of rows node = record { parent = node.parent; «module» = node.module; s
 
 -- ---- the parts
 
--- with `uses` and augments carried out, and the augments that are left
+-- with `uses` and augments applied, and the pending augments
 abbrev pub built : List Stmt → List Row → List (Option ℕ) → Progress
 built stmts rows named = augmented stmts rows named (trees_of stmts rows named)
 

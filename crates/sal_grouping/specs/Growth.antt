@@ -1,4 +1,4 @@
--- The tree of nodes, numbered depth first in the order of the text, with `uses` carried out (RFC 7950 section 7.13).
+-- The tree of nodes, numbered depth first in the order of the text, with `uses` applied (RFC 7950 section 7.13).
 use Rattle.std.specs.Prelude.{ℕ, zero, suc, ◌*◌, Bool, true, false, List, [], ◌∷◌, ◌++◌, map, find, fold, length, Option, Some, None, unwrap_or, if◌then◌else◌}
 use Rattle.std.specs.List.{slice_get, flat_map}
 use Rattle.sal_stmt.specs.declared.stmt.Stmt.{Stmt}
@@ -12,7 +12,7 @@ use Rattle.sal_grouping.specs.Rows.{top_of, option_list, inside, keyword_at, is_
 
 -- ---- the nodes of a block
 
--- statements that make a node where they stand: `input` and `output` do so in an RPC alone
+-- statements that make a node of their block: `input` and `output` do so only in an RPC
 abbrev pub is_node : Option Keyword → Bool
 is_node (Some Container) = true
 is_node (Some Leaf) = true
@@ -28,12 +28,12 @@ is_node keyword = false
 abbrev pub used_by : List (Option ℕ) → ℕ → List ℕ
 used_by named k = option_list (unwrap_or (slice_get named k) None)
 
--- What a statement adds to its block: itself, or the nodes of the groupings that it names.
+-- The nodes that a statement adds to its block: itself, or those of the groupings that it names.
 abbrev pub nodes_at : (ℕ → List ℕ) → List Row → List (Option ℕ) → ℕ → List ℕ
 nodes_at within rows named k = if is_node (keyword_at rows k) then k ∷ [] else flat_map within (used_by named k)
 
--- The statements of the nodes that stand directly in a block, with `uses` carried out so many deep. A chain of `uses`
--- without a cycle names no grouping twice, so as many as there are statements are enough.
+-- The statements of the nodes directly in a block, with at most n levels of `uses` applied. A chain of `uses`
+-- without a cycle names no grouping twice, so the number of statements is enough.
 unfoldable pub nodes_within : ℕ → List Row → List (Option ℕ) → ℕ → List ℕ
 nodes_within zero rows named b = []
 nodes_within (suc n) rows named b = flat_map (nodes_at (nodes_within n rows named) rows named) (inside rows b)
@@ -41,20 +41,20 @@ nodes_within (suc n) rows named b = flat_map (nodes_at (nodes_within n rows name
 abbrev pub nodes_in : List Row → List (Option ℕ) → ℕ → List ℕ
 nodes_in rows named b = nodes_within (length rows) rows named b
 
--- ---- what stands below a node
+-- ---- the children of a node
 
--- a node to be: a statement, and what is implied round it or in it where it is not its own node
+-- a node to be added: a statement, and the kind of an implied node around it or in it
 abbrev pub Seed : Type 0
 Seed = ℕ × Option Implied
 
 abbrev pub plain : ℕ → Seed
 plain k = (k, None)
 
--- a node directly in a choice that is no case gets one
+-- a node directly in a choice that is not a case gets an implied one
 abbrev pub in_choice : List Row → ℕ → Seed
 in_choice rows k = if is_keyword Case (keyword_at rows k) then (k, None) else (k, Some implied.Case)
 
--- the `input` or `output` of an RPC, written or not
+-- the `input` or `output` of an RPC, written or implied
 abbrev pub param_or : ℕ → Implied → Option ℕ → Seed
 param_or rpc side None = (rpc, Some side)
 param_or rpc side (Some k) = (k, None)
@@ -65,7 +65,7 @@ param rows rpc keyword side = param_or rpc side (find (λ k. is_keyword keyword 
 abbrev pub params : List Row → ℕ → List Seed
 params rows rpc = param rows rpc Input implied.Input ∷ param rows rpc Output implied.Output ∷ []
 
--- the nodes of a block, as they stand below a node of this keyword
+-- the nodes of a block, as children of a node of this keyword
 abbrev pub seeds_in : List Row → List (Option ℕ) → Option Keyword → ℕ → List Seed
 seeds_in rows named (Some Choice) b = map (in_choice rows) (nodes_in rows named b)
 seeds_in rows named keyword b = map plain (nodes_in rows named b)
@@ -74,7 +74,7 @@ abbrev pub below_row : List Row → List (Option ℕ) → Option Keyword → ℕ
 below_row rows named (Some Rpc) k = params rows k
 below_row rows named keyword k = seeds_in rows named keyword k
 
--- what stands directly below a node: in an implied case the node itself, in an implied input or output nothing
+-- the children of a node: of an implied case the node itself, of an implied input or output none
 abbrev pub below : List Row → List (Option ℕ) → Seed → List Seed
 below rows named (k, None) = below_row rows named (keyword_at rows k) k
 below rows named (k, Some implied.Case) = plain k ∷ []
@@ -85,14 +85,14 @@ below rows named (k, Some other) = []
 abbrev pub node_of : ℕ → Option ℕ → Seed → Node
 node_of owner parent (k, implied) = record { parent = parent; «module» = owner; row = k; implied = implied }
 
--- The forest with these nodes and so many levels from them on behind it, as children of a node, each of this module. Each node
--- stands before what is below it, and that before the next one.
+-- The forest with these nodes and at most n levels from them on appended, as children of a node, each of this module. Each node
+-- comes before those below it, and these before the next one.
 unfoldable pub grow : ℕ → List Row → List (Option ℕ) → ℕ → Option ℕ → List Node → List Seed → List Node
 grow zero rows named owner parent forest seeds = forest
 grow (suc n) rows named owner parent forest seeds =
     fold (λ grown seed. grow n rows named owner (Some (length grown)) (grown ++ node_of owner parent seed ∷ []) (below rows named seed)) forest seeds
 
--- On a way down the tree a statement stands once, and once more for an implied case.
+-- A path down the tree has each statement once, and once more for an implied case.
 abbrev pub grown : List Row → List (Option ℕ) → ℕ → Option ℕ → List Node → List Seed → List Node
 grown rows named owner parent forest seeds = grow (2 * length rows) rows named owner parent forest seeds
 
@@ -100,7 +100,7 @@ grown rows named owner parent forest seeds = grow (2 * length rows) rows named o
 abbrev pub module_grown : List Stmt → List Row → List (Option ℕ) → List Node → ℕ → List Node
 module_grown stmts rows named forest m = grown rows named m None forest (seeds_in rows named None (top_of stmts m))
 
--- the nodes of the first so many modules
+-- the nodes of the first m modules
 unfoldable pub trees_until : ℕ → List Stmt → List Row → List (Option ℕ) → List Node
 trees_until zero stmts rows named = []
 trees_until (suc m) stmts rows named = module_grown stmts rows named (trees_until m stmts rows named) m

@@ -1,4 +1,4 @@
--- What the tables beside the list of statements hold.
+-- The indexes of the list of statements.
 use Rattle.std.specs.Prelude.{◌≡◌, ℕ, ◌<◌, List, [], map, length, Option, slice_index_or, if◌then◌else◌, String, Vec}
 use Rattle.std.specs.declared.alloc.Global.{Global}
 use Rattle.std.specs.BTreeMap.{BTreeMap, get_by_text}

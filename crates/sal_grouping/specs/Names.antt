@@ -1,4 +1,4 @@
--- The faults of names: every one of every statement, in any order, and the least of them counts.
+-- The faults of names: every one of every statement, in any order; the least of them is returned.
 use Rattle.std.specs.Prelude.{ℕ, zero, suc, Bool, false, List, [], ◌++◌, map, length, Option, Some, None, is_none, ◌==◌, ◌||◌, slice_index_or, if◌then◌else◌}
 use Rattle.std.specs.List.{list_any, flat_map, enumerate_from}
 use Rattle.sal_stmt.specs.declared.stmt.Stmt.{Stmt}
@@ -22,13 +22,13 @@ at_row cause row = at_place cause row.module row.at
 abbrev pub unknown_faults : List Stmt → List Row → Row → List Found
 unknown_faults stmts rows row = if is_none (named_by stmts rows row) then at_row UnknownName row else []
 
--- a prefix in the path of an augment
+-- an unknown prefix in the path of an augment
 abbrev pub path_faults : List Stmt → Row → List Found
 path_faults stmts row = if list_any (λ (step : Step). is_none step.0) (path_of stmts row) then at_row UnknownName row else []
 
 -- ---- groupings that use themselves
 
--- the closest grouping among so many blocks, from this one outwards
+-- the closest grouping in at most n blocks, from this one outwards
 unfoldable pub home : ℕ → List Row → Option ℕ → Option ℕ
 home zero rows block = None
 home (suc n) rows None = None
@@ -37,15 +37,15 @@ home (suc n) rows (Some b) = if is_keyword Grouping (keyword_at rows b) then Som
 abbrev pub home_of : List Row → Row → Option ℕ
 home_of rows row = home 65 rows row.around
 
--- the groupings that the statements of which a grouping is the closest around name
+-- the groupings that the statements directly inside a grouping name: those whose closest grouping it is
 abbrev pub used_in : List Stmt → List Row → ℕ → List ℕ
 used_in stmts rows g = flat_map (λ (row : Row). if is_block g (home_of rows row) then option_list (named_by stmts rows row) else []) rows
 
--- of each statement, which is no use but of a grouping
+-- the edges of each statement; only a grouping has any
 abbrev pub edges_of : List Stmt → List Row → List (List ℕ)
 edges_of stmts rows = map (λ (entry : ℕ × Row). used_in stmts rows entry.0) (enumerate_from 0 rows)
 
--- A grouping uses itself where it names itself, or one that reaches it. A way that is as short as can be visits no grouping twice.
+-- A grouping uses itself if it names itself, or one that reaches it. A shortest path visits no grouping twice.
 abbrev pub reaches_home : List (List ℕ) → ℕ → Option ℕ → Option ℕ → Bool
 reaches_home edges n (Some g) (Some used) = used == g || reaches edges n g (slice_index_or edges used [])
 reaches_home edges n g used = false
@@ -53,11 +53,11 @@ reaches_home edges n g used = false
 abbrev pub is_cyclic : List Stmt → List Row → Option ℕ → Option ℕ → Bool
 is_cyclic stmts rows g used = reaches_home (edges_of stmts rows) (length rows) g used
 
--- a `uses` by which the closest grouping around it uses itself
+-- a `uses` through which the closest grouping around it uses itself
 abbrev pub cycle_faults : List Stmt → List Row → Row → List Found
 cycle_faults stmts rows row = if is_cyclic stmts rows (home_of rows row) (named_by stmts rows row) then at_row NameCycle row else []
 
--- ---- names that differ
+-- ---- names that must be unique
 
 -- a definition that is not the first of its keyword and name in its block
 abbrev pub double_faults : List Row → ℕ → Row → Option ℕ → List Found

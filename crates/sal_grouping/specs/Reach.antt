@@ -1,4 +1,4 @@
--- Ranks of groupings: no way from one to another ascends.
+-- Ranks of groupings: no path from one to another ascends.
 use Rattle.std.specs.Prelude.{◌≡◌, ℕ, ◌<◌, Bool, true, false, List, [], length, slice_index_or, nat_le, nat_lt, Option, Some, None, Vec}
 use Rattle.std.specs.declared.alloc.Global.{Global}
 use Rattle.std.specs.List.{list_all}

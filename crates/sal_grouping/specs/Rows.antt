@@ -1,4 +1,4 @@
--- The statements that shape the tree or name what shapes it, in one list over all modules: a statement is known by its number there.
+-- The statements that form the tree, or define a name for it, in one list over all modules. A statement's number is its index there.
 use Rattle.std.specs.Prelude.{ℕ, zero, suc, Bool, true, false, ◌&&◌, ◌==◌, nat_lt, List, [], ◌∷◌, ◌++◌, fold, length, take, Option, Some, None, is_none, option_and_then, option_map, if◌then◌else◌}
 use Rattle.std.specs.List.{slice_get, enumerate_from, position_from, flat_map}
 use Rattle.sal_stmt.specs.declared.stmt.Stmt.{Stmt, out-Stmt}
@@ -10,7 +10,7 @@ use Rattle.sal_grouping.specs.declared.rows.Row.{Row}
 
 -- ---- which statements
 
--- nodes of the tree, what holds or adds nodes, and what has a name in its block
+-- nodes of the tree, statements that have or add nodes, and definitions of names
 abbrev pub is_part : Keyword → Bool
 is_part Module = true
 is_part Container = true
@@ -40,7 +40,7 @@ part_of stmt = part_among (keyword_of (out-Stmt stmt).keyword)
 
 -- ---- the list
 
--- A row has the module, the number of the statement around it, its keyword, its argument and its place.
+-- A row has the module, the number of the statement around it, its keyword, its argument and its offset.
 abbrev pub row_of : ℕ → Option ℕ → Stmt → Keyword → Row
 row_of m around stmt keyword = record { «module» = m; around = around; keyword = keyword; name = argument_of stmt; at = (out-Stmt stmt).at }
 
@@ -48,23 +48,23 @@ abbrev pub with_row : ℕ → Option ℕ → List Row → Stmt → Option Keywor
 with_row m around rows stmt None = rows
 with_row m around rows stmt (Some keyword) = rows ++ row_of m around stmt keyword ∷ []
 
--- A statement and what stands in so many levels below it, in the order of the text, behind these rows.
--- A statement of another keyword is passed over, and so is what stands in it: extensions and statements with a prefix are.
+-- These rows, then a statement and those in `levels` levels below it, in the order of the text.
+-- A statement of another keyword is skipped with all that is in it: extensions and statements with a prefix are such.
 unfoldable pub with_rows : ℕ → ℕ → Option ℕ → List Row → Stmt → List Row
 with_rows zero m around rows stmt = with_row m around rows stmt (part_of stmt)
 with_rows (suc levels) m around rows stmt =
     if is_none (part_of stmt) then rows
     else fold (λ below sub. with_rows levels m (Some (length rows)) below sub) (with_row m around rows stmt (part_of stmt)) (subs_of stmt)
 
--- Blocks are open 64 deep at most, so no statement stands on a lower level.
+-- Blocks are nested at most 64 deep, so no statement is on a lower level.
 abbrev pub rows_of : List Stmt → List Row
 rows_of stmts = fold (λ rows (m, stmt). with_rows 64 m None rows stmt) [] (enumerate_from 0 stmts)
 
--- the number of the statement with which a module begins: all those of the modules before it stand before it
+-- the number of a module's first statement: the length of the rows of the modules before it
 abbrev pub top_of : List Stmt → ℕ → ℕ
 top_of stmts m = length (rows_of (take m stmts))
 
--- ---- what stands where
+-- ---- blocks
 
 abbrev pub option_list : {X : Type 0} → Option X → List X
 option_list None = []
@@ -74,18 +74,18 @@ abbrev pub is_block : ℕ → Option ℕ → Bool
 is_block b None = false
 is_block b (Some around) = around == b
 
--- it stands directly in this block
+-- the row is directly in this block
 abbrev pub is_inside : ℕ → Row → Bool
 is_inside b row = is_block b row.around
 
--- the numbers of all that do
+-- the numbers of all rows that are
 abbrev pub all_inside : List Row → ℕ → List ℕ
 all_inside rows b = flat_map (λ (entry : ℕ × Row). if is_inside b entry.1 then entry.0 ∷ [] else []) (enumerate_from 0 rows)
 
 abbrev pub is_number : List Row → ℕ → Bool
 is_number rows b = nat_lt b (length rows)
 
--- those of a block of this list
+-- those of a block in this list
 abbrev pub inside : List Row → ℕ → List ℕ
 inside rows b = if is_number rows b then all_inside rows b else []
 
@@ -99,14 +99,14 @@ abbrev pub is_keyword : Keyword → Option Keyword → Bool
 is_keyword keyword None = false
 is_keyword keyword (Some other) = same_keyword other keyword
 
--- it has this keyword and this name, and stands directly in this block
+-- the row has this keyword and name, and is directly in this block
 abbrev pub defines : Keyword → ℕ → List ℕ → Row → Bool
 defines keyword b name row = (is_inside b row && same_keyword row.keyword keyword) && same row.name name
 
--- the first that does
+-- the first such row
 abbrev pub first_defined : List Row → Keyword → ℕ → List ℕ → Option ℕ
 first_defined rows keyword b name = position_from (defines keyword b name) 0 rows
 
--- and, in a block of this list, what a name stands for there
+-- and, in a block of this list, the row that a name refers to
 abbrev pub first_of : List Row → Keyword → ℕ → List ℕ → Option ℕ
 first_of rows keyword b name = if is_number rows b then first_defined rows keyword b name else None

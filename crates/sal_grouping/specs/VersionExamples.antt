@@ -26,7 +26,7 @@ both = first ++ second ∷ []
 abbrev pub node : Option ℕ → ℕ → ℕ → Node
 node parent m row = record { parent = parent; «module» = m; row = row; implied = None }
 
--- the nodes of both at once, and those of a second version after the first
+-- the nodes of both modules at once, and those of a second version after the first
 abbrev pub at_once : Result (List Node) BuildFault
 at_once = expanded both (rows_of both)
 

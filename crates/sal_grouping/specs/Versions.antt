@@ -14,25 +14,25 @@ use Rattle.sal_grouping.specs.Groupings.{named_of}
 use Rattle.sal_grouping.specs.Growth.{module_grown}
 use Rattle.sal_grouping.specs.Rows.{rows_of}
 
--- ---- what is new
+-- ---- the additions
 
--- these nodes, then those of so many modules, the first of which has the number `old`
+-- these nodes, then those of n modules, the first of which has the index `old`
 unfoldable pub trees_from : ℕ → List Stmt → List Row → List (Option ℕ) → ℕ → List Node → List Node
 trees_from zero stmts rows named old before = before
 trees_from (suc n) stmts rows named old before = module_grown stmts rows named (trees_from n stmts rows named old before) (old + n)
 
--- the augments of the modules from number `old` on
+-- the augments of the modules from index `old` on
 abbrev pub new_augment_at : ℕ → ℕ → Row → List ℕ
 new_augment_at old k row = if nat_le old row.module then augment_at k row else []
 
 abbrev pub new_augments : ℕ → List Row → List ℕ
 new_augments old rows = flat_map (λ (entry : ℕ × Row). new_augment_at old entry.0 entry.1) (enumerate_from 0 rows)
 
--- the new augments carried out in rounds, and those that are left
+-- the new augments applied in rounds, and the pending ones
 abbrev pub carried_on : List Stmt → List Row → List (Option ℕ) → ℕ → List Node → Progress
 carried_on stmts rows named old forest = rounds (length (new_augments old rows)) stmts rows named (forest, new_augments old rows)
 
--- the nodes with those of the modules from number `old` on, and of their augments
+-- the nodes with those of the modules from index `old` on, and of their augments
 abbrev pub grown_on : List Stmt → List Row → List (Option ℕ) → ℕ → List Node → Progress
 grown_on stmts rows named old before = carried_on stmts rows named old (trees_from (length stmts - old) stmts rows named old before)
 
@@ -42,11 +42,11 @@ grown_on stmts rows named old before = carried_on stmts rows named old (trees_fr
 abbrev pub nodes_on : List Stmt → ℕ → List Node → Progress
 nodes_on stmts old before = grown_on stmts (rows_of stmts) (named_of stmts (rows_of stmts)) old before
 
--- where no augment is left and no two children have one name
+-- if no augment is pending and no two children have one name
 abbrev pub closed_on : List Row → Progress → Result (List Node) BuildFault
 closed_on rows progress = unless_any (target_faults rows progress.1) progress.0 >>= (λ forest. unless_any (child_faults rows forest) forest)
 
--- and where it has not too many nodes; names are without a fault
+-- and if it does not exceed the limit; names have no fault
 abbrev pub judged_on : List Row → Progress → Result (List Node) BuildFault
 judged_on rows progress =
     sized progress >>= (λ p. unless_any (target_faults rows p.1) p.0) >>= (λ forest. unless_any (child_faults rows forest) forest)

@@ -16,7 +16,7 @@ use Rattle.sal_rows.specs.Spans.{is_of_chain, own_commits, spans}
 use Rattle.sal_history.specs.Submissions.{Base, Sent, is_in, view_of}
 use Rattle.sal_history.proofs.Spans.{on_top, own_step, split}
 
--- what the commits did, and their chains
+-- the operations of the commits, and their chains
 abbrev pub ops_in : List Sent → List (List Op)
 ops_in ds = map (λ (x : Sent). x.ops) ds
 
@@ -35,7 +35,7 @@ IsOver opening ds b = (b.commit ≤ length (ops_in ds)) × ((s : Store) → b.tr
 abbrev pub Follows : Base → Sent → Type 0
 Follows b x = (x.base.domain ≡ b.domain) × (x.base.commit ≡ b.commit) × ((s : Store) → b.trees s ≡ view_of x s)
 
--- what is of a chain has its id
+-- an element of a chain has its id
 pub same_chain : (a b : Option ℕ) → is_of_chain a b ≡ true → a ≡ b
 same_chain None b e = cc
 same_chain (Some m) None e = cc
@@ -63,7 +63,7 @@ module _ (opening : Store → List Row) (commit : ℕ) (chain : Option ℕ) (s :
       ∙ ap (fold (own_step chain s) (tree_at opening (ops_in ds) s commit)) (drop-append-le commit ds (x ∷ []) le)
       ∙ fold-append (own_step chain s) (tree_at opening (ops_in ds) s commit) (drop commit ds) (x ∷ [])
 
-  -- one commit more, which counts where it is of the chain
+  -- one more commit, which counts if it is of the chain
   tree_over-push : (ds : List Sent) (x : Sent) → commit ≤ length ds → tree_over opening (ds ++ x ∷ []) commit chain s ≡ own_step chain s (tree_over opening ds commit chain s) x
   tree_over-push ds x le =
       let longer : commit ≤ length (ds ++ x ∷ []) = omega (arith, le, length-append ds (x ∷ [])) in

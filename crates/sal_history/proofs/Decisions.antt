@@ -1,4 +1,4 @@
--- What one decision tells: the commit and the path that a conflict names, and that nothing is broken where it is done.
+-- The result of one decision: the commit and the path of a conflict, and that a done submission breaks no rule.
 use Rattle.std.proofs.Common.{◌≡◌, ◌⊎◌, inl, inr, ℕ, zero, suc, Bool, true, false, ◌+◌, ◌-◌, ◌≤◌, List, [], ◌∷◌, ◌++◌, length, take, drop, Option, None, Some, refl, ap, sym, ◌∙◌, subst, arith}
 use Rattle.std.specs.Prelude.{Any, IsTrue, slice_get, unwrap_or, option_and_then}
 use Rattle.std.specs.Option.{option_or, option_map, option_map_or}
@@ -36,7 +36,7 @@ use Rattle.sal_history.specs.History.{outcome, unmounted_of}
 use Rattle.sal_history.specs.Laws.{ConflictsNameALaterCommit, DoneLeavesNoBreach, IsLaterTouch, IsOwnLeaf, IsOwnPlace, own_tree}
 use Rattle.sal_history.proofs.Spans.{are, first, lies, rest, split}
 
--- what holds of an element of a list holds of some element
+-- a property of an element of a list is one of some element
 any_get : {X : Type 0} (P : X → Type 0) (xs : List X) (i : ℕ) (x : X) → slice_get xs i ≡ Some x → P x → Any P xs
 any_get P [] i x e p = cc
 any_get P (y ∷ xs) zero x e p = (zero, x, omega arith, cc, p)
@@ -46,7 +46,7 @@ any_get P (y ∷ xs) (suc i) x e p = let rest = any_get P xs i x e p in (suc res
 prefix-take : (n : ℕ) (p : List Step) → is_prefix (take n p) p ≡ true
 prefix-take n p = ap (is_prefix (take n p)) (sym (take-append-drop n p)) ∙ is_prefix-append (take n p) (drop n p)
 
--- where a conflict is placed is the operation's own path, above it, or a leaf that it merges
+-- the place of a conflict is the operation's own path, a prefix of it, or a leaf that it merges
 own_place : (rules : Rules) (op : Op) (depth : ℕ) (row : Option ℕ) (path : List Step) → naming.IsPlaced rules op depth row → take depth (path_by op row) ≡ path → IsTrue (is_prefix path op.path) ⊎ IsOwnLeaf rules op path
 own_place rules op depth None path placed at = inl (subst (λ (q : List Step). is_prefix q op.path ≡ true) at (prefix-take depth op.path))
 own_place rules op depth (Some i) path placed at =
@@ -74,7 +74,7 @@ no_conflict None None n store path kind commit e = cc
 no_conflict None (Some b) n store path kind commit e = cc
 no_conflict (Some b) oper n store path kind commit e = cc
 
--- nothing is broken where a decision is done, and it has the next number
+-- if a decision is done no rule is broken, and it has the next number
 sound : (config oper : Option Breach) (n commit : ℕ) → decided None config oper n ≡ Done commit → (config ≡ None) × (oper ≡ None) × (commit ≡ n)
 sound None None n commit e = let same : n ≡ commit = cc in (refl, refl, sym same)
 sound None (Some b) n commit e = cc
@@ -91,7 +91,7 @@ none_broken ops (Some c) config oper n commit =
 
 -- ---- a chain that failed, and a domain that is unmounted
 
--- what is decided as something else has no receipt of its chain that failed, and was decided in itself
+-- an outcome other than `FailedBy` and `Unmounted` is the decision itself, and the chain has not failed
 pub went : (o : Option ℕ) (live : Bool) (domain : ℕ) (d x : Outcome) → unwrap_or (option_or (option_map FailedBy o) (unmounted_of live domain)) d ≡ x
     → ((n : ℕ) → FailedBy n ≡ x → ⊥) → ((n : ℕ) → Unmounted n ≡ x → ⊥) → (o ≡ None) × (d ≡ x)
 went None true domain d x e failed gone = (refl, e)
@@ -100,7 +100,7 @@ went (Some n) live domain d x e failed gone = absurd (failed n e)
 
 -- ---- the laws
 
--- where the base trees have rows, the own commits' trees have the same
+-- if the base trees have rows, the own commits' trees have them too
 abbrev pub IsWithinOwn : List Domain → List Sent → List Outcome → Base → Type 0
 IsWithinOwn world ss os base = IsWithin base.trees (own_tree world ss os base)
 
@@ -132,7 +132,7 @@ module _ (world : List Domain) (tables : ℕ → SchemaTable) (live : ℕ → Bo
   abbrev decision : Option Clash → Outcome
   decision o = decided (clashing s.ops o) (broken Config) (broken Oper) (length commits + 1)
 
-  -- as many chains as commits
+  -- the number of chains is that of commits
   as_many : length chains ≡ length commits
   as_many = length-map (done domain ss os) (λ x. x.base.chain) ∙ sym (length-map (done domain ss os) (λ x. x.ops))
 
@@ -189,7 +189,7 @@ module _ (world : List Domain) (tables : ℕ → SchemaTable) (live : ℕ → Bo
   pub numbered : (commit : ℕ) → outcome world tables live ss os s ≡ Done commit → commit ≡ length commits + 1
   numbered commit all = (when_done commit all).2
 
-  -- what conflicts is of no chain that failed
+  -- the chain of a submission that conflicts has not failed before
   pub unfailed : (store : Store) (path : List Step) (kind : ClashKind) (commit : ℕ) → outcome world tables live ss os s ≡ Conflict store path kind commit → failing s.base.chain ss os ≡ None
   unfailed store path kind commit all = (went (failing s.base.chain ss os) (live domain) domain here (Conflict store path kind commit) all (λ n e. cc) (λ n e. cc)).0
 

@@ -1,4 +1,4 @@
--- What holds of each log: its receipts, and the open transactions of its chains.
+-- The invariants of each log: its receipts, and the open transactions of its chains.
 use Rattle.std.proofs.Common.{◌≡◌, ℕ, suc, ◌+◌, ◌-◌, Bool, true, false, List, [], ◌∷◌, ◌++◌, length, Option, None, Some, refl, ap, sym, ◌∙◌, subst, cond, arith, inl, inr, ◌⊎◌, append-nil}
 use Rattle.std.specs.Prelude.{not, slice_get, unwrap_or, option_and_then, if◌then◌else◌, nat_eq, nat_lt}
 use Rattle.std.specs.List.{cons_option, fold, list_any}
@@ -74,7 +74,7 @@ module _ (world : List Domain) (answered : List Answered) (was : IsSound world a
   abbrev OpenAfter : ℕ → Call → Base → Type 0
   OpenAfter client call b = OpenWith call (reply client call) b
 
-  -- ---- what a call begins
+  -- ---- transactions that a call begins
 
   -- a base at the newest commit, without a chain
   plain_stands : (domain : ℕ) → Stands world ss os ss (newest_base world answered domain None)
@@ -89,7 +89,7 @@ module _ (world : List Domain) (answered : List Answered) (was : IsSound world a
   )
   on_waiting chain (Some s) = ((refl, refl, λ t. refl), refl)
 
-  -- the submission on which a chain's next transaction stands
+  -- the submission that a chain's next transaction builds on
   abbrev before : ℕ → Option Sent
   before chain = option_and_then (λ n. numbered ss n) (stands_on answered chain)
 
@@ -112,7 +112,7 @@ module _ (world : List Domain) (answered : List Answered) (was : IsSound world a
       ]
   begun_stands client call b = λ e. absurd (none-some b e)
 
-  -- ---- what a call submits and decides
+  -- ---- submissions and decisions of a call
 
   -- the base of what is submitted at a place
   abbrev base_at : ℕ → Base
@@ -252,7 +252,7 @@ module _ (world : List Domain) (answered : List Answered) (was : IsSound world a
     outcomes-now : outcomes (answered ++ now ∷ []) ≡ os ++ decided_by world answered e.call
     outcomes-now = flat_map-append (λ (a : Answered). a.decided) answered (now ∷ []) ∙ ap (λ (ps : List Outcome). os ++ ps) (append-nil (decided_by world answered e.call))
 
-    -- what is not spent now was not before, and is not by the call
+    -- a transaction that is not spent now was not spent before, and is not spent by the call
     unspent-now : (place : ℕ) → is_spent (answered ++ now ∷ []) place ≡ false → (is_spent answered place ≡ false) × (spends e.call (reply e.client e.call) place ≡ false)
     unspent-now place free =
         let test : Answered → Bool = λ a. spends a.entry.call a.reply place in

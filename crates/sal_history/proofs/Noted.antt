@@ -1,4 +1,4 @@
--- What a client takes of a whole log is what was offered to it.
+-- The notifications that a client takes over a whole log are those offered to it.
 use Rattle.std.proofs.Common.{◌≡◌, ℕ, zero, suc, Bool, true, false, ◌&&◌, List, [], ◌∷◌, ◌++◌, length, take, Option, None, Some, refl, ap, sym, ◌∙◌, subst, cond, arith, inl, inr, append-nil, append_assoc, if◌then◌else◌, nat_eq}
 use Rattle.std.specs.Prelude.{slice_get}
 use Rattle.std.specs.List.{cons_option, flat_map}
@@ -22,14 +22,14 @@ use Rattle.sal_history.proofs.Placed.{AreAnswered, are_answered, take_next, ther
 
 -- ---- one call on notifications more
 
--- what the client takes by the call
+-- the notifications that the client takes by the call
 abbrev takes_by : ℕ → List Made → Asked → List Note
 takes_by client made asked = if takes asked.call && nat_eq asked.client client then queue made client else []
 
 abbrev brought : ℕ → List Made → List Note
 brought client made = flat_map (λ (m : Made). brings client m.call m.reply m.subscribed) made
 
--- what is taken and what waits then is what waited before, and what the call brought
+-- those taken and those waiting after the call are those waiting before it and the new ones
 module _ (made : List Made) (asked : Asked) (client : ℕ) where
   abbrev one : Made
   one = record { client = asked.client; call = asked.call; reply = replies made asked.client asked.call; subscribed = subscribed_to made asked.call }
@@ -42,7 +42,7 @@ module _ (made : List Made) (asked : Asked) (client : ℕ) where
       flat_map-append (λ (m : Made). brings client m.call m.reply m.subscribed) made (one ∷ [])
       ∙ ap (λ (ns : List Note). brought client made ++ ns) (append-nil (brings client one.call one.reply one.subscribed))
 
--- who takes, brings nothing
+-- a take adds no notification
 nothing_brought : (client : ℕ) (made : List Made) (asked : Asked) → takes asked.call ≡ true → brings client asked.call (replies made asked.client asked.call) (subscribed_to made asked.call) ≡ []
 nothing_brought client made asked e = by asked.call e
   where
@@ -90,7 +90,7 @@ noted-more h a =
       | Some asked ↦ fold-append make [] calls (asked ∷ [])
     ]
 
--- what the entry gives to the client
+-- the notifications that the client takes by the entry
 abbrev takes_in : ℕ → List Made → Option Asked → List Note
 takes_in client made None = []
 takes_in client made (Some asked) = takes_by client made asked

@@ -1,11 +1,11 @@
--- What is looked up by its number, from 1 on.
+-- Elements that are looked up by their number, from 1 on.
 use Rattle.std.proofs.Common.{◌≡◌, ℕ, zero, suc, ◌+◌, ◌-◌, ◌<◌, ◌≤◌, List, [], ◌∷◌, ◌++◌, length, map, Some, refl, ap, ◌∙◌, arith}
 use Rattle.std.specs.Prelude.{slice_get}
 use Rattle.std.specs.Option.{option_map}
 use Rattle.std.proofs.lemmas.Option.{none-some, slice_get-map, slice_get_within}
 use Rattle.sal_history.specs.Numbered.{numbered}
 
--- it is the one at the place before
+-- it is the one at the index before
 pub numbered-low : {X : Type 0} (xs : List X) (n : ℕ) → 0 < n → numbered xs n ≡ slice_get xs (n - 1)
 numbered-low xs zero low = absurd (omega (arith, low))
 numbered-low xs (suc i) low = let same : i ≡ suc i - 1 = omega arith in ap (slice_get xs) same
@@ -31,7 +31,7 @@ front [] ys i x at = absurd (none-some x at)
 front (y ∷ xs) ys zero x at = at
 front (y ∷ xs) ys (suc i) x at = front xs ys i x at
 
--- it stays where more follow
+-- it stays when elements are added
 pub numbered-more : {X : Type 0} (xs ys : List X) (n : ℕ) (x : X) → numbered xs n ≡ Some x → numbered (xs ++ ys) n ≡ Some x
 numbered-more xs ys zero x at = absurd (none-some x at)
 numbered-more xs ys (suc i) x at = front xs ys i x at

@@ -16,7 +16,7 @@ take_next n [] x at = absurd (none-some x at)
 take_next zero (y ∷ xs) x at = ap (λ z. z ∷ []) (same_Some y x at)
 take_next (suc n) (y ∷ xs) x at = ap (λ zs. y ∷ zs) (take_next n xs x at)
 
--- what stands at a place, or the place is behind all
+-- the element at a place, or the place is past the end
 pub there_or_not : {X : Type 0} (xs : List X) (n : ℕ) (o : Option X) → slice_get xs n ≡ o → ((x : X) × (slice_get xs n ≡ Some x)) ⊎ (take (suc n) xs ≡ take n xs)
 there_or_not xs n (Some x) at = inl (x, at)
 there_or_not [] zero None at = inr refl

@@ -1,4 +1,4 @@
--- What holds of the submissions and the outcomes of each log: what pending submissions stand on, what conflicts name, and
+-- The invariants of the submissions and the outcomes of each log: what pending submissions build on, what conflicts name, and
 -- how commits are numbered.
 use Rattle.std.proofs.Common.{◌≡◌, ℕ, zero, suc, ◌+◌, ◌<◌, ◌≤◌, Bool, true, false, List, [], ◌∷◌, ◌++◌, ◌&&◌, length, take, Option, None, Some, refl, ap, sym, ◌∙◌, subst, cond, arith, inl, inr, ◌⊎◌, append-nil, append_assoc, length-append}
 use Rattle.std.specs.Prelude.{not, slice_get, if◌then◌else◌, nat_eq, is_some}
@@ -34,19 +34,19 @@ get-take (suc n) [] i lt = refl
 get-take (suc n) (x ∷ xs) zero lt = refl
 get-take (suc n) (x ∷ xs) (suc i) lt = get-take n xs i (omega (arith, lt))
 
--- ---- what a base stands on
+-- ---- what a base builds on
 
--- Where a submission waits, the base is on it; else it is over the commits of its domain. A transaction that no entry began
--- is of none.
+-- If a submission waits, the base builds on it; else it is over the commits of its domain. A transaction that no entry began has no
+-- base.
 abbrev pub StandsOn : List Domain → List Sent → List Outcome → Option Sent → Base → Type 0
 StandsOn world ss os None b = IsBase world ss os b ⊎ (b ≡ nowhere)
 StandsOn world ss os (Some x) b = Follows b x
 
--- unless its chain has failed, a base with these submissions before it stands on the one that waits
+-- unless its chain has failed, a base with these submissions before it builds on the waiting one
 abbrev pub Stands : List Domain → List Sent → List Outcome → List Sent → Base → Type 0
 Stands world ss os before b = failing b.chain ss os ≡ None → StandsOn world ss os (waiting b.chain before os) b
 
--- what a conflict names, over the commits of the domain
+-- the commit that a conflict names, over the commits of the domain
 abbrev IsNamedOver : List Domain → List Sent → Sent → Store → List Step → ℕ → Type 0
 IsNamedOver world ds s store path commit =
     ((s.base.commit < commit) × (commit ≤ length (ops_in ds)) × (touches_at (opening_of world s.base.domain) (ops_in ds) store path commit ≡ true) × (is_own s.base.chain (chains_in ds) commit ≡ false))
@@ -66,7 +66,7 @@ pub record Known (world : List Domain) (IsOpen : Base → Type 0) (ss : List Sen
   pub numbers : (i : ℕ) (s : Sent) (commit : ℕ) → slice_get ss i ≡ Some s → slice_get os i ≡ Some (Done commit) → commit ≡ length (done s.base.domain ss (take i os)) + 1
 
 module _ (world : List Domain) where
-  -- other commits, of which the base stands on the same
+  -- other commits, on which the base builds in the same way
   stands_over : (ss ts : List Sent) (os : List Outcome) (w : Option Sent) (b : Base) → done b.domain ss os ≡ done b.domain ts os → StandsOn world ss os w b → StandsOn world ts os w b
   stands_over ss ts os None b same was =
       elim was [
@@ -85,7 +85,7 @@ module _ (world : List Domain) where
       (λ here. cond_both (is_done o) (s ∷ []) [] (λ (more : List Sent). IsOver (opening_of world b.domain) (ds ++ more) b) (λ made. over_other (opening_of world b.domain) ds s b other was) (λ unmade. same))
       (λ elsewhere. same)
 
-  -- a base over the commits after the submission on which it stood
+  -- a base over the commits after the submission on which it was built
   now_over : (ss : List Sent) (os : List Outcome) (s : Sent) (o : Outcome) (b : Base) → is_in b.chain s ≡ true → is_done o ≡ true → Follows b s → IsBase world ss os s.base
       → IsOver (opening_of world b.domain) (done b.domain ss os ++ added b.domain s o) b
   now_over ss os s o b own made on was =
@@ -102,7 +102,7 @@ module _ (world : List Domain) where
       let none : false ≡ true = ap (λ (c : Option ℕ). is_of_chain c s.base.chain) (sym chains) ∙ own in
       cc
 
-  -- where a submission of a chain that has not failed is decided, it was done
+  -- if a submission of a chain is decided and the chain has not failed, the submission is done
   was_done : (chain : Option ℕ) (s : Sent) (o : Outcome) → is_in chain s ≡ true → fails chain s o ≡ false → is_done o ≡ true
   was_done chain s o own e = flipped (is_done o) (ap (λ b. b && not (is_done o)) (sym own) ∙ e)
     where
@@ -110,7 +110,7 @@ module _ (world : List Domain) where
       flipped true f = refl
       flipped false f = cc
 
-  -- the front of what is pending stands on nothing that waits
+  -- the first pending submission builds on none that waits
   front_on : (ss : List Sent) (os : List Outcome) (s : Sent) → failing s.base.chain ss os ≡ None → Stands world ss os (take (length os) ss) s.base → StandsOn world ss os None s.base
   front_on ss os s sound own =
       let few : length (take (length os) ss) ≤ length os = omega (arith, length-take (length os) ss) in
@@ -218,7 +218,7 @@ module _ (world : List Domain) where
 
     -- ---- one submission more
 
-    -- Of a base that stands on what waits; the open transactions behind it are of other chains.
+    -- Of a base that builds on a waiting submission; the open transactions after it are of other chains.
     pub Known-submit : (IsStill : Base → Type 0) (ss : List Sent) (os : List Outcome) (s : Sent) → Known world IsOpen ss os → Stands world ss os ss s.base
         → ((b : Base) → IsStill b → IsOpen b × (is_in b.chain s ≡ false)) → Known world IsStill (ss ++ s ∷ []) os
     Known-submit IsStill ss os s was stands others =

@@ -1,4 +1,4 @@
--- Requests over a whole log: who made them, who is handed them, and what they are answered.
+-- Requests over a whole log: who made them, which client receives them, and their answers.
 use Rattle.std.proofs.Common.{◌≡◌, ℕ, zero, suc, ◌+◌, ◌-◌, ◌<◌, ◌≤◌, Bool, true, false, not, ◌&&◌, ◌||◌, List, [], ◌∷◌, ◌++◌, length, take, Option, None, Some, refl, ap, sym, ◌∙◌, subst, arith, inl, inr, ◌⊎◌, append-nil, if◌then◌else◌, nat_eq}
 use Rattle.std.specs.Prelude.{is_some, slice_get, unwrap_or}
 use Rattle.std.specs.List.{cons_option}
@@ -29,7 +29,7 @@ use Rattle.sal_history.specs.World.{Domain}
 use Rattle.sal_history.specs.History.{Answered, history, reply_to}
 use Rattle.sal_history.proofs.Placed.{AreAnswered, are_answered, take_next, there_or_not}
 
--- ---- the router's answers behind the shared ones
+-- ---- the router's answers from the shared ones
 
 from-request : (rpc : ℕ) (x : RpcReply) (r : Request) → rpc_reply rpc x ≡ said.Request r → x ≡ rpc_replies.Handed r
 from-request rpc (rpc_replies.Handed q) r e = cc
@@ -63,7 +63,7 @@ routed-more h a =
 abbrev with_reply : List Made → ℕ → RpcCall → Made
 with_reply made client call = record { client = client; call = call; reply = routes made client call; owner = sent_to made call }
 
--- what holds of the calls before an entry still holds behind it, where the call on the router that it may be keeps it
+-- an invariant of the calls before an entry holds after it, if the router's call in the entry (if any) keeps it
 kept_by : (P : List Made → Type 0) → ((made : List Made) (asked : Asked) → P made → P (make made asked)) → (made : List Made) (o : Option Asked) → P made → P (grown made o)
 kept_by P keeps made None was = was
 kept_by P keeps made (Some asked) was = keeps made asked was
@@ -105,7 +105,7 @@ both : (a b : Bool) → (a && b) ≡ true → a ≡ true
 both true b e = refl
 both false b e = cc
 
--- what a client is handed is a request that goes to it
+-- a client receives a request that goes to it
 handed_of : (made : List Made) (client : ℕ) (r : Request) → routes made client rpcs.NextCall ≡ rpc_replies.Handed r
     → (q : Requested) × (request_at (requests made) r.id ≡ Some q) × (q.owner ≡ client) × (q.rpc ≡ r.rpc) × (q.context ≡ r.context) × (q.input ≡ r.input)
 handed_of made client r = found (slice_get (queue made client) 0) refl
@@ -155,7 +155,7 @@ requested_by made client (rpcs.Invoke rpc context input) q = by (owner_of made r
         ((λ i. rpcs.Invoke (same i).rpc (same i).context (same i).input), (λ i. owner_of made (sym same i).rpc (sym same i).context) ∙ at ∙ ap (λ (z : Requested). Some z.owner) same)
 requested_by made client call q = λ e. absurd (none-some q e)
 
--- the shared call behind the router's
+-- the shared call of the router's call
 shared_invoke : (call : Call) (rpc : ℕ) (context : Option (List Step)) (input : List Row) → rpc_call call ≡ Some (rpcs.Invoke rpc context input) → call ≡ Invoke rpc context input
 shared_invoke (Invoke k c i) rpc context input e = cc
 shared_invoke call rpc context input e = cc
@@ -217,7 +217,7 @@ module _ (world : List Domain) (h : List Answered) (are : AreAnswered world h) w
         ] refl (ap (λ (m : List Made). request_at (requests m) id) (sym now) ∙ e)
   ]
 
-  -- ---- who is handed one
+  -- ---- the client that receives one
 
   -- the router's answer
   handing : (i : ℕ) (a : Answered) (r : Request) → slice_get h i ≡ Some a → a.entry.call ≡ NextCall → a.reply ≡ said.Request r → routes (routed (take i h)) a.entry.client rpcs.NextCall ≡ rpc_replies.Handed r
@@ -239,7 +239,7 @@ module _ (world : List Domain) (h : List Answered) (are : AreAnswered world h) w
         (λ i. owner_of (routed (take is.0 h)) (sym found.3 i) (sym found.4 i)) ∙ is.6 ∙ ap Some found.2,
       )
 
-  -- behind the entry the request is handed out
+  -- after the entry the request is delivered
   is_out : (i : ℕ) (a : Answered) (r : Request) → slice_get h i ≡ Some a → a.entry.call ≡ NextCall → a.reply ≡ said.Request r → is_handed (routed (take (suc i) h)) r.id ≡ true
   is_out i a r at call reply =
       let made : List Made = routed (take i h) in

@@ -1,4 +1,4 @@
--- The spans of a submission: that they are such, that no own commit lies in them, and what the own commits make of a tree.
+-- The spans of a submission: that they are spans, that they have no own commit, and the effect of the own commits on a tree.
 use Rattle.std.proofs.Common.{◌≡◌, ℕ, zero, suc, ◌+◌, ◌-◌, ◌<◌, ◌≤◌, true, false, List, [], ◌∷◌, length, drop, Option, None, Some, refl, ap, sym, ◌∙◌, subst, cond, arith, inl, inr, ◌⊎◌}
 use Rattle.std.specs.Prelude.{Any, slice_get, unwrap_or, map, if◌then◌else◌}
 use Rattle.std.specs.List.{filter, fold, slice_index_or}
@@ -18,7 +18,7 @@ use Rattle.sal_history.specs.Submissions.{Sent, is_in}
 
 -- ---- lists
 
--- what holds of some element of a list of one holds of that one
+-- a property of some element of a one-element list is one of that element
 pub any_of_one : {X : Type 0} (P : X → Type 0) (x : X) → Any P (x ∷ []) → P x
 any_of_one {X} P x a = at a.0 a.1 a.2 a.3 a.4
   where
@@ -26,7 +26,7 @@ any_of_one {X} P x a = at a.0 a.1 a.2 a.3 a.4
     at zero y inside is p = subst P (sym is) p
     at (suc k) y inside is p = absurd (omega (arith, inside))
 
--- what holds of some element holds of the first or of a later one
+-- a property of some element is one of the first or of a later one
 any_split : {X : Type 0} (P : X → Type 0) (x : X) (xs : List X) → Any P (x ∷ xs) → P x ⊎ Any P xs
 any_split {X} P x xs a = at a.0 a.1 a.2 a.3 a.4
   where
@@ -44,7 +44,7 @@ drop_more (y ∷ xs) (suc i) x e =
 
 -- ---- the first span and the others
 
--- where the span ends behind which these own commits stand
+-- the end of the span before these own commits
 abbrev end_of : List ℕ → ℕ → ℕ
 end_of [] t = t
 end_of (c ∷ cs) t = c - 1
@@ -73,11 +73,11 @@ module _ (chain : Option ℕ) (chains : List (Option ℕ)) where
         | false ↦ are n a (b + 1) t (omega (arith, le)) (omega (arith, e))
       ]
 
-  -- the number lies in the span, and something else holds
+  -- the number is in the span, and something else holds
   abbrev Lies : Type 0 → ℕ → Span → Type 0
   Lies Q k span = (span.from < k) × (k ≤ span.to) × Q
 
-  -- what lies in one of the spans lies behind the base, and is not the chain's own
+  -- a number in one of the spans is after the base, and not the chain's own
   pub lies : (Q : Type 0) (k n a b t : ℕ) → a ≤ b → b + n ≡ t → ((j : ℕ) → a < j → j ≤ b → is_own chain chains j ≡ false)
       → Any (Lies Q k) (first a (own_from b n) t ∷ rest (own_from b n) t) → (a < k) × (k ≤ t) × Q × (is_own chain chains k ≡ false)
   lies Q k zero a b t le e none any =
@@ -103,7 +103,7 @@ module _ (chain : Option ℕ) (chains : List (Option ℕ)) where
 
 -- ---- the own commits on top
 
--- a tree after a commit, which counts where it is of the chain
+-- a tree after a commit, which counts if it is of the chain
 abbrev pub own_step : Option ℕ → Store → List Row → Sent → List Row
 own_step chain s tree x = if is_in chain x then apply_ops tree s x.ops else tree
 
@@ -122,7 +122,7 @@ module _ (chain : Option ℕ) (ds : List Sent) where
       ∙ ap (λ (o : Option (Option ℕ)). is_of_chain chain (unwrap_or o None)) (slice_get-map (λ (y : Sent). y.base.chain) ds b)
       ∙ ap (λ (o : Option Sent). is_of_chain chain (unwrap_or (option_map (λ (y : Sent). y.base.chain) o) None)) at
 
-  -- what a commit did
+  -- the operations of a commit
   ops_are : (b : ℕ) (x : Sent) → slice_get ds b ≡ Some x → unwrap_or (slice_get ops_of (b + 1 - 1)) [] ≡ x.ops
   ops_are b x at =
       let back : b + 1 - 1 ≡ b = omega arith in

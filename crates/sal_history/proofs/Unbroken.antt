@@ -98,7 +98,7 @@ module _ (world : List Domain) where
   decided-unbroken answered Pump was = next-unbroken (tables_now world answered) (is_live world answered) 1 (sents answered) (outcomes answered) was
   decided-unbroken answered call was = subst (AreUnbroken (tables_now world answered) (sents answered)) (sym (append-nil (outcomes answered))) was
 
-  -- a submission that is not decided changes nothing
+  -- a pending submission changes no tree
   sent-unbroken : (tables : ℕ → SchemaTable) (ss : List Sent) (os : List Outcome) (o : Option Sent) → length os ≤ length ss → AreUnbroken tables ss os → AreUnbroken tables (ss ++ option_to_list o) os
   sent-unbroken tables ss os None within was = subst (λ (ts : List Sent). AreUnbroken tables ts os) (sym (append-nil ss)) was
   sent-unbroken tables ss os (Some s) within was = λ domain. subst (IsUnbroken (tables domain) domain) (sym (done-more domain ss s os within)) (was domain)

@@ -33,19 +33,19 @@ pub first-version : (table : SchemaTable) (upgrades : List SchemaTable) → vers
 first-version table [] = refl
 first-version table (next ∷ upgrades) = refl
 
--- the version after so many is the upgrade of that place
+-- the version after `v` is the upgrade at that place
 pub next-version : (table : SchemaTable) (upgrades : List SchemaTable) (v : ℕ) (next : SchemaTable) → slice_get upgrades v ≡ Some next → version_from table upgrades (suc v) ≡ next
 next-version table [] v next at = absurd (none-some next at)
 next-version table (u ∷ upgrades) zero next at = first-version u upgrades ∙ same_Some u next at
 next-version table (u ∷ upgrades) (suc v) next at = next-version u upgrades v next at
 
--- what holds of each table holds of each version
+-- a property of all tables is one of each version
 pub at-version : (P : SchemaTable → Type 0) (table : SchemaTable) (upgrades : List SchemaTable) (v : ℕ) → P table → AllByRecursion P upgrades → P (version_from table upgrades v)
 at-version P table [] v here rest = here
 at-version P table (u ∷ upgrades) zero here rest = here
 at-version P table (u ∷ upgrades) (suc v) here rest = at-version P u upgrades v rest.0 rest.1
 
--- in a chain each version extends the one before, also past the last one, where it is the same
+-- in a chain each version extends the one before, also past the last one, which is then repeated
 pub chain-at : (table : SchemaTable) (upgrades : List SchemaTable) (v : ℕ) → IsChain table upgrades → Extends (version_from table upgrades (suc v)) (version_from table upgrades v)
 chain-at table [] v chain = extends-itself table
 chain-at table (u ∷ upgrades) zero chain = subst (λ t. Extends t table) (sym (first-version u upgrades)) chain.0
@@ -56,7 +56,7 @@ pub chain-push : (table : SchemaTable) (upgrades : List SchemaTable) (next : Sch
 chain-push table [] next chain extends = (extends, tt)
 chain-push table (u ∷ upgrades) next chain extends = (chain.0, chain-push u upgrades next chain.1 extends)
 
--- where each extends the one before, each later one extends each earlier one
+-- if each extends the one before, each later one extends each earlier one
 pub later-extends : (f : ℕ → SchemaTable) → ((v : ℕ) → Extends (f (suc v)) (f v)) → (v w : ℕ) → v ≤ w → Extends (f w) (f v)
 later-extends f each v zero le = let same : zero ≡ v = omega (arith, le) in subst (λ k. Extends (f zero) (f k)) same (extends-itself (f zero))
 later-extends f each v (suc w) le = elim (cases_lt v (suc w)) [
@@ -96,7 +96,7 @@ schema_version-push answered a =
     let one : 0 + cond (upgraded a.entry.call a.reply) 1 0 ≡ cond (upgraded a.entry.call a.reply) 1 0 = omega arith in
     sum_by-append (λ (x : Answered). cond (upgraded x.entry.call x.reply) 1 0) answered (a ∷ []) ∙ ap (λ n. schema_version answered + n) one
 
--- any other entry leaves it, and all tables with it
+-- any other entry does not change it, nor the tables
 pub schema_version-same : (answered : List Answered) (a : Answered) → upgraded a.entry.call a.reply ≡ false → schema_version (answered ++ a ∷ []) ≡ schema_version answered
 schema_version-same answered a e =
     let none : schema_version answered + 0 ≡ schema_version answered = omega arith in
@@ -112,7 +112,7 @@ tables-same world answered a e = ap (λ v domain. table_of world v domain) (sche
 pub schema_version-rises : (answered : List Answered) (a : Answered) → schema_version answered ≤ schema_version (answered ++ a ∷ [])
 schema_version-rises answered a = omega (arith, schema_version-push answered a)
 
--- that at an earlier place stays, and that after all entries is the present one
+-- the version at an earlier place is unchanged, and the one after all entries is the present one
 pub version_at-stays : (answered : List Answered) (a : Answered) (place : ℕ) → place ≤ length answered → version_at (answered ++ a ∷ []) place ≡ version_at answered place
 version_at-stays answered a place le = ap schema_version (take-append-le place answered (a ∷ []) le)
 
@@ -133,7 +133,7 @@ map_none : {X Y : Type 0} (f : X → Y) (o : Option X) → option_map f o ≡ No
 map_none f None e = refl
 map_none f (Some x) e = cc
 
--- where nothing is broken by a table, no tree has a breach
+-- if the trees break no rule of a table, no tree has a breach
 pub none-broken : (table : SchemaTable) (trees : Store → List Row) (s : Store) → broken_by table trees ≡ None → breach table s (trees s) ≡ None
 none-broken table trees Config e = map_none _ (breach table Config (trees Config)) (or_none (breach_in table trees Config) (breach_in table trees Oper) e).0
 none-broken table trees Oper e = map_none _ (breach table Oper (trees Oper)) (or_none (breach_in table trees Config) (breach_in table trees Oper) e).1

@@ -1,4 +1,4 @@
--- What one more submission and one more outcome change: the commits of a domain, the chains that failed, and what waits.
+-- One more submission and one more outcome: the commits of a domain, the failed chains, and the pending submissions.
 use Rattle.std.proofs.Common.{◌≡◌, ℕ, suc, ◌+◌, ◌-◌, ◌<◌, ◌≤◌, Bool, true, false, List, [], ◌∷◌, ◌++◌, ◌&&◌, length, Option, None, Some, refl, ap, sym, ◌∙◌, subst, cond, arith, inl, inr, append-nil, append_assoc}
 use Rattle.std.specs.Prelude.{not, slice_get, option_and_then, if◌then◌else◌, nat_eq, nat_lt}
 use Rattle.std.specs.Option.{option_or}
@@ -17,7 +17,7 @@ waiting chain (s ∷ ss) (o ∷ os) = waiting chain ss os
 
 -- ---- commits
 
--- what a submission with this outcome adds to the commits of a domain
+-- the commits that a submission with this outcome adds to a domain
 abbrev pub added : ℕ → Sent → Outcome → List Sent
 added domain s o = if nat_eq s.base.domain domain then if_done o s else []
 
@@ -32,7 +32,7 @@ done-more domain [] s (o ∷ os) le = absurd (omega (arith, le))
 done-more domain (t ∷ ss) s [] le = refl
 done-more domain (t ∷ ss) s (o ∷ os) le = ap (λ (ds : List Sent). added domain t o ++ ds) (done-more domain ss s os (omega (arith, le)))
 
--- one that is decided makes one where it is done
+-- a decided one makes a commit if it is done
 pub done-next : (domain : ℕ) (ss : List Sent) (s : Sent) (os : List Outcome) (o : Outcome) → slice_get ss (length os) ≡ Some s → done domain ss (os ++ o ∷ []) ≡ done domain ss os ++ added domain s o
 done-next domain [] s os o at = absurd (none-some s at)
 done-next domain (t ∷ ss) s [] o at =
@@ -66,9 +66,9 @@ failing-next n chain (t ∷ ss) s (p ∷ os) o at e =
     let later = failing-next (n + 1) chain ss s os o at parts.1 in
     (ap (λ b. cond b (Some n) (failing_from (n + 1) chain ss os)) parts.0 ∙ later.0, later.1)
 
--- ---- what waits
+-- ---- pending submissions
 
--- nothing waits where all is decided
+-- no submission waits if all are decided
 pub waiting_none : (chain : Option ℕ) (ss : List Sent) (os : List Outcome) → length ss ≤ length os → waiting chain ss os ≡ None
 waiting_none chain [] os le = refl
 waiting_none chain (s ∷ ss) [] le = absurd (omega (arith, le))
@@ -105,7 +105,7 @@ last_within n test (x ∷ xs) k e =
       | Some j ↦ λ e h. let same = same_Some j k h in let rest = last_within (n + 1) test xs j e in (omega (arith, same, rest.0), omega (arith, same, rest.1))
     ] refl e
 
--- counted from n on, the element with this number, where it is above the bound
+-- the element with this number, counted from `n`, if it is above the bound
 abbrev pub found : {X : Type 0} → ℕ → ℕ → List X → Option ℕ → Option X
 found n bound xs o = option_and_then (λ k. slice_get xs (k - n)) (option_and_then (λ k. if nat_lt bound k then Some k else None) o)
 

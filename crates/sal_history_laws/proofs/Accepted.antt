@@ -1,4 +1,4 @@
--- Each write of a log that was accepted would be accepted over the trees just before its commit.
+-- Each accepted write of a log would be accepted over the trees just before its commit.
 use Rattle.std.proofs.Common.{◌≡◌, ℕ, ◌-◌, List, [], take, sym, subst}
 use Rattle.std.specs.Prelude.{IsTrue}
 use Rattle.sal_types.specs.declared.value.Store.{Store}

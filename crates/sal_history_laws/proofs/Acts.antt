@@ -25,18 +25,18 @@ use Rattle.sal_history_laws.proofs.Fronts.{same_step, front_itself, front_throug
 use Rattle.sal_history_laws.proofs.Standing.{nothing, stands_below}
 use Rattle.sal_history_laws.proofs.Wholes.{Fits, AllFit, AllFit-same, leafs_at, unmarked-whole, same_whole, more_whole, among-key}
 
--- at each entry and presence container above a path something stands
+-- there is a row at or below each entry and presence container above a path
 abbrev pub HasParents : SchemaTable → List Row → List Step → Type 0
 HasParents table tree p = (q : List Step) → is_root q ≡ false → is_prefix q p ≡ true → is_prefix p q ≡ false → has_mark table (last_step q) ≡ true → has tree q ≡ true
 
--- what holds of an act that is one for the schema and is not refused
+-- the properties of an act that fits the schema and is not refused
 pub record IsAllowed (table : SchemaTable) (p : List Step) (act : Act) : Type 0 where
   pub inside : is_root p ≡ false
   pub no_key : is_key_leaf table p ≡ false
   pub outside : is_in_message table p ≡ false
   pub rows : AllFit table p (rows_of_act act)
 
--- the first step tells whether a path is part of an RPC or a notification
+-- the first step decides whether a path is part of an RPC or a notification
 in_message-front : (table : SchemaTable) (p r : List Step) → is_root p ≡ false → is_prefix p r ≡ true → is_in_message table p ≡ is_in_message table r
 in_message-front table [] r inside below = cc
 in_message-front table (s ∷ p) [] inside below = cc
@@ -50,7 +50,7 @@ in_message-front table (s ∷ p) (t ∷ r) inside below = by s t (same_step s t 
     by : (s t : Step) → s ≡ t → is_in_message table (s ∷ p) ≡ is_in_message table (t ∷ r)
     by s t e = alone s p r ∙ ap (λ x. is_in_message table (x ∷ r)) e
 
--- an act sets nothing beside its path
+-- an act sets only paths at or below its own
 setting_beside : (p : List Step) (act : Act) (r : List Step) (c : Option Cell) → ((r : List Step) (d : Cell) → cell (rows_of_act act) r ≡ Some d → is_prefix p r ≡ true) → is_prefix p r ≡ false
     → cell_by (act_setting p act r) c ≡ c
 setting_beside p (Put rows) r c lie beside = ap (λ b. cell_by (if b then Some (cell rows r) else None) c) beside
@@ -64,12 +64,12 @@ setting_beside p (Merge rows) r c lie beside =
 
 module _ (table : SchemaTable) (good : IsTable table) (p : List Step) (act : Act) (allowed : IsAllowed table p act) (before after : List Row) (closed : AllFit table [] before)
     (cells : (r : List Step) → cell after r ≡ cell_by (act_setting p act r) (cell before r)) (parents : needs_parents act ≡ true → HasParents table before p) where
-  -- ---- beside the path
+  -- ---- paths that are not at or below it
 
   beside : (r : List Step) → is_prefix p r ≡ false → cell after r ≡ cell before r
   beside r out = cells r ∙ setting_beside p act r (cell before r) (λ x d e. (allowed.rows x d e).below) out
 
-  -- a key leaf of an entry beside the path is beside the path, which is no key leaf
+  -- a key leaf of an entry at another path is at another path: the path is not a key leaf
   key_beside : (q : List Step) (leaf : ℕ) → is_prefix p q ≡ false → is_among leaf (leafs_at table q) ≡ true → is_prefix p (q ++ Node leaf ∷ []) ≡ false
   key_beside q leaf out among =
       elim (is_prefix p (q ++ Node leaf ∷ [])) as (λ b. is_prefix p (q ++ Node leaf ∷ []) ≡ b → b ≡ false) [
@@ -83,7 +83,7 @@ module _ (table : SchemaTable) (good : IsTable table) (p : List Step) (act : Act
   whole_beside : (q : List Step) → is_prefix p q ≡ false → is_whole_at table before q ≡ true → is_whole_at table after q ≡ true
   whole_beside q out whole = same_whole after before q table (beside q out) (λ leaf among. beside (q ++ Node leaf ∷ []) (key_beside q leaf out among)) ∙ whole
 
-  -- what is above the path was whole before
+  -- a prefix of the path was whole before
   above_whole : needs_parents act ≡ true → (q : List Step) → is_prefix q p ≡ true → is_prefix p q ≡ false → is_whole_at table before q ≡ true
   above_whole needs q over out =
       elim (has_mark table (last_step q)) as (λ b. has_mark table (last_step q) ≡ b → is_whole_at table before q ≡ true) [
@@ -127,7 +127,7 @@ module _ (table : SchemaTable) (good : IsTable table) (p : List Step) (act : Act
         outside = ap not (sym (in_message-front table p r allowed.inside it.below) ∙ allowed.outside);
       }
 
-  -- a row beside the path has nothing of it above
+  -- a row at another path has no prefix at or below the path
   only_beside : (r : List Step) → is_prefix p r ≡ false → (q : List Step) → is_prefix q r ≡ true → is_prefix p q ≡ true → is_whole_at table after q ≡ true
   only_beside r out q front under = absurd (true≢false (sym (front_through p q r under front) ∙ out))
 
@@ -180,7 +180,7 @@ module _ (table : SchemaTable) (good : IsTable table) (p : List Step) (before af
       stays : (x : List Step) → cell rows x ≡ None → cell after x ≡ cell before x
       stays x none = cells x ∙ ap (λ o. cell_by (option_map Some o) (cell before x)) none
 
-      -- what was whole at the path or below, by the rows that are merged or as it was
+      -- a path at or below it that was whole stays whole, by the merged rows or unchanged
       low : (q : List Step) → is_prefix p q ≡ true → is_whole_at table before q ≡ true → is_whole_at table after q ≡ true
       low q under whole =
           elim (has rows q) as (λ b. has rows q ≡ b → is_whole_at table after q ≡ true) [
@@ -190,7 +190,7 @@ module _ (table : SchemaTable) (good : IsTable table) (p : List Step) (before af
                 ∙ whole
           ] refl
 
--- an act that is allowed over a closed tree leaves it closed
+-- an act that is allowed over a closed tree gives a closed tree
 pub act_fits : (table : SchemaTable) (p : List Step) (act : Act) (before after : List Row) → IsTable table → IsAllowed table p act → AllFit table [] before
     → ((r : List Step) → cell after r ≡ cell_by (act_setting p act r) (cell before r)) → (needs_parents act ≡ true → HasParents table before p) → AllFit table [] after
 act_fits table p (Put rows) before after good allowed closed cells parents = put_fits table good p before after closed rows allowed cells (parents refl)

@@ -34,7 +34,7 @@ use Rattle.sal_history_laws.proofs.Standing.{some_there, stands_below, has_where
 use Rattle.sal_history_laws.proofs.Wholes.{AllFit, fits-AllFit, AllFit-fits, AllFit-same, whole-row}
 use Rattle.sal_rows.proofs.Quiet.{no_map}
 
--- ---- what is not refused
+-- ---- an operation that is not refused
 
 no_first : (a b : Option TxFault) → or_else a b ≡ None → a ≡ None
 no_first None b e = refl
@@ -88,7 +88,7 @@ module _ (table : SchemaTable) (tree : List Row) (op : Op) (allowed : refusal ta
     rows = fits-AllFit table op.path (rows_of_act op.act) right.rows;
   }
 
--- what holds of an operation that is no read
+-- the properties of an operation that is not a read
 abbrev IsAllowedOver : SchemaTable → List Row → Op → Type 0
 IsAllowedOver table tree op = IsForSchema table op × (refusal table tree op ≡ None)
 
@@ -136,7 +136,7 @@ lawful_keeps_closed table base ops good closed lawful s =
 
 -- ---- over a newer tree
 
--- something stands at a marked path exactly where its row does
+-- there is a row at or below a marked path exactly if the path has its own row
 own_row : (table : SchemaTable) (tree : List Row) (q : List Step) → AllFit table [] tree → has_mark table (last_step q) ≡ true → has tree q ≡ true → (d : Cell) × (cell tree q ≡ Some d)
 own_row table tree q closed marked there =
     let (r, c, below, e) = stands_below tree q there in
@@ -147,7 +147,7 @@ abbrev pub lost_clash : (Store → List Row) → List (List Op) → List Span �
 lost_clash opening commits spans earlier op d = record { op = length earlier; row = None; depth = d; kind = Deleted; commit = unwrap_or (last_touch_over opening commits spans op.store (take d op.path)) 0 }
 
 module _ (table : SchemaTable) (good : IsTable table) (opening : Store → List Row) (commits : List (List Op)) (base : Store → List Row) (s : Store) (newest : AllFit table [] (tip opening commits s)) where
-  -- where no parent is lost, what stood above the path in the transaction's view stands there in the newer tree
+  -- if no parent is lost, the parents of the path in the transaction's view are in the newer tree
   newer-parents : (earlier : List Op) (p : List Step) → AllFit table [] (apply_ops (base s) s earlier) → lost_parent opening commits base earlier s p ≡ None
       → HasParents table (apply_ops (base s) s earlier) p → HasParents table (apply_ops (tip opening commits s) s earlier) p
   newer-parents earlier p seen none parents q inside over out marked =
@@ -214,9 +214,9 @@ without_conflict_stays_closed table opening commits rules base spans ops good cl
     AllFit-fits table [] (apply_ops (tip opening commits s) s ops) (IsAscending-apply_ops (tip opening commits s) s ops)
     (newer-all table good opening commits base s (fits-AllFit table [] (tip opening commits s) (newest s)) rules spans [] ops lawful writes (none_applied table (base s) s (closed s)) (none_applied table (tip opening commits s) s (newest s)))
 
--- ---- what was not refused is not over the newer trees
+-- ---- an operation that was not refused is not refused over the newer trees
 
--- where all parents are there, none is missing
+-- if all parents are there, none is missing
 none_missing_by : (table : SchemaTable) (tree : List Row) (op : Op) → (needs_parents op.act ≡ true → HasParents table tree op.path) → missing_of table tree op ≡ None
 none_missing_by table tree op parents =
     elim (needs_parents op.act) as (λ b. needs_parents op.act ≡ b → (if b then missing_parent table tree op.path else None) ≡ None) [

@@ -75,8 +75,8 @@ done-next domain (t ∷ ss) s (p ∷ os) o at =
 
 -- ---- decisions
 
--- By any tables by which the opening trees are closed and the submissions lawful, whatever those were by which they were decided: that
--- nothing conflicts is all that is asked of a decision.
+-- For any tables by which the opening trees are closed and the submissions lawful, also if they were decided by others: the only premise
+-- about decisions is that nothing conflicts.
 module _ (world : List Domain) (tables : ℕ → SchemaTable) (are_tables : (domain : ℕ) → IsTable (tables domain)) (opened : (domain : ℕ) → AreClosed (tables domain) (opening_of world domain)) where
   -- the trees of a domain at all of these commits are closed
   abbrev AreClosedAt : ℕ → List (List Op) → Type 0
@@ -86,7 +86,7 @@ module _ (world : List Domain) (tables : ℕ → SchemaTable) (are_tables : (dom
   abbrev AreClosedAll : List Sent → List Outcome → Type 0
   AreClosedAll ss os = (domain : ℕ) → AreClosedAt domain (done_ops domain ss os)
 
-  -- what a submission stands on is closed, and its operations are lawful there
+  -- the base of a submission is closed, and its operations are lawful over it
   abbrev IsLawful : Sent → Type 0
   IsLawful s = AreClosed (tables s.base.domain) s.base.trees × AreLawful (tables s.base.domain) s.base.trees [] s.ops
 
@@ -110,7 +110,7 @@ module _ (world : List Domain) (tables : ℕ → SchemaTable) (are_tables : (dom
       ]
 
   module _ (by : ℕ → SchemaTable) (live : ℕ → Bool) (ss : List Sent) (os : List Outcome) (s : Sent) where
-    -- what is done makes closed trees of the newest ones
+    -- a done submission over closed newest trees gives closed trees
     done-closed : (commit : ℕ) → IsLawful s → AreClosedAt s.base.domain (done_ops s.base.domain ss os) → outcome world by live ss os s ≡ Done commit
         → AreClosed (tables s.base.domain) (λ t. apply_ops (tip (opening_of world s.base.domain) (done_ops s.base.domain ss os) t) t s.ops)
     done-closed commit lawful all e =
@@ -140,7 +140,7 @@ module _ (world : List Domain) (tables : ℕ → SchemaTable) (are_tables : (dom
         unchanged : AreClosedAt domain (map (λ x. x.ops) (done domain ss os ++ []))
         unchanged = subst (λ (ds : List Sent). AreClosedAt domain (map (λ x. x.ops) ds)) (sym (append-nil (done domain ss os))) (all domain)
 
-  -- as many outcomes as submissions at most, and closed trees
+  -- at most as many outcomes as submissions, and closed trees
   abbrev IsDecided : List Sent → List Outcome → Type 0
   IsDecided ss os = (length os ≤ length ss) × AreClosedAll ss os
 
@@ -192,7 +192,7 @@ module _ (world : List Domain) (tables : ℕ → SchemaTable) (are_tables : (dom
         on-closed chain (option_and_then (λ n. numbered (sents answered) n) (stands_on answered chain))
         (λ s e. option_and_then_some (λ n. numbered (sents answered) n) (stands_on answered chain) s e (λ n there at. (n - 1, numbered-is (sents answered) n s at)))
 
-    -- what a transaction that a call begins stands on
+    -- the base of a transaction that a call begins
     begun-closed : (client : ℕ) (call : Call) (b : Base) → began_by world answered call (reply_to world answered client call) ≡ Some b → AreClosed (tables b.domain) b.trees
     begun-closed client (Begin domain mode) b =
         cond_both (is_live world answered domain) (Begun (length (commits answered domain)) None) (Refused (NoDomain domain)) (λ r. began_by world answered (Begin domain mode) r ≡ Some b → AreClosed (tables b.domain) b.trees)
@@ -205,7 +205,7 @@ module _ (world : List Domain) (tables : ℕ → SchemaTable) (are_tables : (dom
         ]
     begun-closed client call b = λ e. absurd (none-some b e)
 
-    -- what a submission stands on
+    -- the base of a submission
     sent-closed : (call : Call) (reply : Reply) (s : Sent) → sent_by answered call reply ≡ Some s → AreClosed (tables s.base.domain) s.base.trees
     sent-closed (Submit place ops) (Receipt n) s e =
         subst (λ (x : Sent). AreClosed (tables x.base.domain) x.base.trees) (same_Some (record { base = unwrap_or (began_at answered place) nowhere; ops = ops }) s e) (by (began_at answered place) refl)

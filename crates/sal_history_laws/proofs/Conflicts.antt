@@ -1,4 +1,4 @@
--- What is done has no conflict.
+-- A done submission has no conflict.
 use Rattle.std.proofs.Common.{◌≡◌, ℕ, ◌+◌, Bool, true, false, List, [], ◌∷◌, ◌++◌, length, Option, None, Some, refl, ap, sym, ◌∙◌, append_assoc, if◌then◌else◌}
 use Rattle.std.specs.Prelude.{not, ◌&&◌, slice_get, unwrap_or}
 use Rattle.std.specs.List.{position_from}
@@ -101,14 +101,14 @@ no_clash ops (Some c) rest n commit there e =
     let no : conflict_of c op ≡ Done commit = ap (λ (x : Option Op). unwrap_or (option_or (option_map (conflict_of c) x) rest) (Done n)) (sym at) ∙ e in
     cc
 
--- what is done was decided in itself
+-- a done outcome is the decision itself
 in_itself : (o : Option ℕ) (live : Bool) (domain : ℕ) (d : Outcome) (commit : ℕ) → unwrap_or (option_or (option_map FailedBy o) (unmounted_of live domain)) d ≡ Done commit → d ≡ Done commit
 in_itself None true domain d commit e = e
 in_itself None false domain d commit e = cc
 in_itself (Some n) live domain d commit e = cc
 
 module _ (world : List Domain) (by : ℕ → SchemaTable) (live : ℕ → Bool) (ss : List Sent) (os : List Outcome) (s : Sent) where
-  -- what is done has no conflict
+  -- a done submission has no conflict
   pub done-quiet : (commit : ℕ) → outcome world by live ss os s ≡ Done commit
       → clash (opening_of world s.base.domain) (done_ops s.base.domain ss os) (rules_of world s.base.domain) s.base.trees (spans s.base.commit s.base.chain (done_chains s.base.domain ss os)) s.ops ≡ None
   done-quiet commit e =

@@ -61,7 +61,7 @@ module _ (world : List Domain) where
 
   -- ---- one submission more
 
-  -- a decision depends on the receipt by which the chain failed and on the commits of the domain alone
+  -- a decision depends only on the receipt by which the chain failed and on the commits of the domain
   abbrev by_parts : (ℕ → SchemaTable) → (ℕ → Bool) → Sent → Option ℕ → List Sent → Outcome
   by_parts tables live s failed ds =
       unwrap_or (option_or (option_map FailedBy failed) (unmounted_of (live s.base.domain) s.base.domain))

@@ -67,7 +67,7 @@ last_step-end p s =
     let less : length (p ++ s ∷ []) - 1 ≡ length p = omega (arith, long) in
     ap (slice_get (p ++ s ∷ [])) less ∙ slice_get-end p s
 
--- ---- what stands above a path
+-- ---- the rows above a path
 
 find-map : {X Y : Type 0} (t : Y → Bool) (f : X → Y) (xs : List X) → find t (map f xs) ≡ None → find (λ x. t (f x)) xs ≡ None
 find-map t f [] e = refl
@@ -79,7 +79,7 @@ find-first t x xs e = elim (t x) as (λ b. cond b (Some x) (find t xs) ≡ None 
 find-rest : {X : Type 0} (t : X → Bool) (x : X) (xs : List X) → find t (x ∷ xs) ≡ None → find t xs ≡ None
 find-rest t x xs e = elim (t x) as (λ b. cond b (Some x) (find t xs) ≡ None → find t xs ≡ None) [ true ↦ λ h. cc | false ↦ λ h. h ] e
 
--- what is not found above a path does not hold of a front of it
+-- if no path above passes a test, no prefix of the path passes it
 pub none_above : (t : List Step → Bool) (p q : List Step) → find t (above p) ≡ None → is_root q ≡ false → is_prefix q p ≡ true → is_prefix p q ≡ false → t q ≡ false
 none_above t p [] none inside below strict = cc
 none_above t [] (s ∷ q) none inside below strict = cc
@@ -101,7 +101,7 @@ map-find : {X Y : Type 0} (t : Y → Bool) (f : X → Y) (xs : List X) → find 
 map-find t f [] e = refl
 map-find t f (x ∷ xs) e = elim (t (f x)) as (λ b. cond b (Some x) (find (λ x. t (f x)) xs) ≡ None → cond b (Some (f x)) (find t (map f xs)) ≡ None) [ true ↦ λ h. cc | false ↦ λ h. map-find t f xs h ] e
 
--- what holds of no front of a path is not found above it
+-- if no prefix of a path passes a test, no path above is found
 pub above_none : (t : List Step → Bool) (p : List Step) → ((q : List Step) → is_root q ≡ false → is_prefix q p ≡ true → is_prefix p q ≡ false → t q ≡ false) → find t (above p) ≡ None
 above_none t [] each = refl
 above_none t (u ∷ []) each = refl
@@ -124,7 +124,7 @@ take-front : (q rest : List Step) → take (length q) (q ++ rest) ≡ q
 take-front [] rest = refl
 take-front (s ∷ q) rest = ap (λ r. s ∷ r) (take-front q rest)
 
--- and so by the numbers of steps
+-- the same by the numbers of steps
 pub none_by_depth : (t : List Step → Bool) (p q : List Step) → find (λ d. t (take d p)) (depths_above p) ≡ None → is_root q ≡ false → is_prefix q p ≡ true → is_prefix p q ≡ false → t q ≡ false
 none_by_depth t p q none inside below strict =
     let (rest, is) = IsPrefix-from_test q p below in

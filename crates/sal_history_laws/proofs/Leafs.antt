@@ -1,4 +1,4 @@
--- Nothing follows a leaf.
+-- No path has a step below a leaf.
 use Rattle.std.proofs.Common.{◌≡◌, ℕ, suc, ◌-◌, Bool, true, false, not, List, [], ◌∷◌, ◌++◌, length, Option, Some, None, refl, sym, ap, ◌∙◌, arith}
 use Rattle.std.specs.List.{slice_get}
 use Rattle.std.specs.Option.{option_map_or}
@@ -36,7 +36,7 @@ last_step-cons s t q =
     ap (slice_get (s ∷ t ∷ q)) e
 
 module _ (table : SchemaTable) where
-  -- the step behind a node
+  -- the step after a node
   behind : (o : Option ℕ) (b : Bool) (r : List Step) (n : ℕ) (s : Step) (q : List Step) → last_step r ≡ Some (Node n) → fits_from table (record { node = o; wants_entry = b }) (r ++ s ∷ q) ≡ true
       → step_fits table (record { node = Some n; wants_entry = is_kind has_entries table n }) s ≡ true
   behind o b [] n s q last e = absurd (none-some (Node n) last)
@@ -61,7 +61,7 @@ module _ (table : SchemaTable) where
   none_behind good n (Key values) leaf e = true≢false (sym (and_first (is_kind has_entries table n) _ e) ∙ at_leaf has_entries false (kind_of table n) refl leaf)
   none_behind good n (Item value) leaf e = true≢false (sym (and_first (is_kind has_entries table n) _ e) ∙ at_leaf has_entries false (kind_of table n) refl leaf)
 
-  -- no path that fits goes on behind a leaf
+  -- no path that fits has a step below a leaf
   pub leaf_ends : IsTable table → (r : List Step) (s : Step) (q : List Step) → is_at_leaf table (last_step r) ≡ true → fits_path table (r ++ s ∷ q) ≡ true → ⊥
   leaf_ends good r s q leaf fits = by (last_step r) refl leaf
     where

@@ -1,4 +1,4 @@
--- In a closed tree a row of its own stands just where something stands whose kind has one.
+-- In a closed tree a path whose kind has an own row has it exactly if there is a row at or below the path.
 use Rattle.std.proofs.Common.{◌≡◌, inl, inr, true, false, List, [], ◌∷◌, ◌++◌, Option, Some, None, refl, sym, ap, ◌∙◌, append-nil}
 use Rattle.std.specs.Prelude.{is_some}
 use Rattle.std.proofs.lemmas.Bool.{and_parts, or_cases, or_left, or_right}
@@ -22,14 +22,14 @@ use Rattle.sal_history_laws.proofs.Leafs.{leaf_ends}
 use Rattle.sal_history_laws.proofs.Standing.{stands_below}
 use Rattle.sal_history_laws.proofs.Wholes.{AllFit, fits-AllFit, whole-row}
 
--- a value stands at a leaf alone
+-- only leafs have values
 value-leaf : (table : SchemaTable) (o : Option Step) (value : Value) → has_value table o value ≡ true → is_at_leaf table o ≡ true
 value-leaf table None value e = cc
 value-leaf table (Some (Node n)) value e = (and_parts (is_kind is_leaf table n) (is_of_node table n value) e).0
 value-leaf table (Some (Key values)) value e = cc
 value-leaf table (Some (Item item)) value e = cc
 
--- a cell that fits stands where one may
+-- a cell that fits is at a path that may have one
 cell-own : (table : SchemaTable) (r : List Step) (c : Cell) → cell_fits table r c ≡ true → has_own_row table r ≡ true
 cell-own table r Mark e = or_left (has_mark table (last_step r)) (is_at_leaf table (last_step r)) e
 cell-own table r (Leaf value) e = or_right (has_mark table (last_step r)) (is_at_leaf table (last_step r)) (value-leaf table (last_step r) value e)

@@ -45,8 +45,8 @@ use Rattle.sal_history_laws.proofs.Snapshots.{IsSnapshot, snapshots}
 
 -- ---- one decision
 
--- Where a submission stands on the trees at its base commit with its chain's own later commits on top, and is done, it read what it would
--- have read over the newest trees.
+-- A submission over the trees at its base commit with its chain's own later commits: if it is done, its reads were the same as over the
+-- newest trees.
 module _ (world : List Domain) (ss : List Sent) (os : List Outcome) (t : Sent) where
   abbrev domain : ℕ
   domain = t.base.domain
@@ -78,12 +78,12 @@ module _ (world : List Domain) (ss : List Sent) (os : List Outcome) (t : Sent) w
 
 -- ---- a submission whose transaction no entry began
 
--- what is of no chain has no own commits
+-- a transaction without a chain has no own commits
 none_own : (chains : List (Option ℕ)) (ks : List ℕ) → filter (is_own None chains) ks ≡ []
 none_own chains [] = refl
 none_own chains (k ∷ ks) = none_own chains ks
 
--- a base without a chain that has the trees at its commit stands on them, over the commits so far
+-- a base without a chain that has the trees at its commit is a base over the commits so far
 plain_base : (world : List Domain) (ss : List Sent) (os : List Outcome) (b : Base) → b.chain ≡ None → b.commit ≤ length (done_ops b.domain ss os)
     → ((s : Store) → b.trees s ≡ tree_at (opening_of world b.domain) (done_ops b.domain ss os) s b.commit) → IsBase world ss os b
 plain_base world ss os b plain within trees =
@@ -100,7 +100,7 @@ plain_base world ss os b plain within trees =
 alike-over : (t : Sent) (x y : Store → List Row) → ((s : Store) → x s ≡ y s) → ReadsAlike x t → ReadsAlike y t
 alike-over t x y same is n s path known = ap (λ (tree : List Row). under (apply_ops tree s (take n t.ops)) path) (sym (same s)) ∙ is n s path known
 
--- what is played is what the commits leave
+-- the trees after the play are those after the commits
 played-trees : (trees : Store → List Row) (ts : List Sent) (s : Store) → fold played trees ts s ≡ tree_after s (trees s) (map (λ (x : Sent). x.ops) ts)
 played-trees trees [] s = refl
 played-trees trees (t ∷ ts) s = played-trees (played trees t) ts s
@@ -127,7 +127,7 @@ module _ (world : List Domain) (log : List Entry) where
   abbrev os : List Outcome
   os = outcomes h
 
-  -- where the definitions have no transaction, a base that began has the opening trees of domain 0
+  -- if the definitions have no transaction, a base that began has the opening trees of domain 0
   nowhere_base : (i : ℕ) (t : Sent) → t.base ≡ nowhere → IsOfBegun h t → IsBase world ss (take i os) t.base
   nowhere_base i t e begun =
       let plain : t.base.chain ≡ None = ap (λ (b : Base). b.chain) e in
@@ -240,7 +240,7 @@ logs_are_serialisable = serialisable
 pub reads_stand : ReadsStand
 reads_stand = stands
 
--- what was read before its read was recorded is what is read after
+-- a read before its record and after it gives the same rows
 before_record : (trees : Store → List Row) (all : List Op) (s : Store) (path : List Step) (ops more : List Op) → all ≡ with_read s path ops ++ more
     → rows_read trees all (length (with_read s path ops)) s path ≡ under (apply_ops (trees s) s ops) path
 before_record trees all s path ops more e =

@@ -1,4 +1,4 @@
--- What a transaction without conflict read is what it would have read over the newest trees.
+-- The reads of a transaction without conflict are the same over the newest trees.
 use Rattle.std.proofs.Common.{◌≡◌, ℕ, zero, suc, ◌≤◌, Bool, true, false, List, [], ◌∷◌, ◌++◌, ◌&&◌, ◌||◌, take, Option, Some, None, refl, ap, sym, ◌∙◌, arith, if◌then◌else◌}
 use Rattle.std.specs.Prelude.{is_some, slice_get}
 use Rattle.std.specs.List.{list_any}
@@ -32,7 +32,7 @@ use Rattle.sal_history_laws.proofs.Standing.{apply-read}
 
 -- ---- lists
 
--- where a test holds of some element, there is one, with its place
+-- if some element passes a test, there is one with its index
 some_holds : {X : Type 0} (test : X → Bool) (xs : List X) → list_any test xs ≡ true → (i : ℕ) × (x : X) × (slice_get xs i ≡ Some x) × (test x ≡ true)
 some_holds test [] e = cc
 some_holds {X} test (x ∷ xs) e =
@@ -41,7 +41,7 @@ some_holds {X} test (x ∷ xs) e =
       | false ↦ λ h f. let rest = some_holds test xs f in (suc rest.0, rest.1, rest.2, rest.3)
     ] refl e
 
--- and where there is one the test holds of some
+-- and an element that passes is some element
 holds_some : {X : Type 0} (test : X → Bool) (xs : List X) (i : ℕ) (x : X) → slice_get xs i ≡ Some x → test x ≡ true → list_any test xs ≡ true
 holds_some test [] i x at h = cc
 holds_some test (y ∷ xs) zero x at h = ap (λ b. b || list_any test xs) (ap test (same_Some y x at) ∙ h)
@@ -49,14 +49,14 @@ holds_some test (y ∷ xs) (suc i) x at h =
     let rest = holds_some test xs i x at h in
     elim (test y) as (λ b. (b || list_any test xs) ≡ true) [ true ↦ refl | false ↦ rest ]
 
--- what stands in a front stands in the list
+-- the elements of a front are elements of the list
 in_front : {X : Type 0} (n : ℕ) (xs : List X) (i : ℕ) (x : X) → slice_get (take n xs) i ≡ Some x → slice_get xs i ≡ Some x
 in_front zero xs i x at = cc
 in_front (suc n) [] i x at = cc
 in_front (suc n) (y ∷ xs) zero x at = at
 in_front (suc n) (y ∷ xs) (suc i) x at = in_front n xs i x at
 
--- ---- what is below a path
+-- ---- rows below a path
 
 -- trees with the same cells below a path have the same rows there
 same-under : (x y : List Row) (p : List Step) → IsAscending x → IsAscending y → SameBelow p x y → under x p ≡ under y p
@@ -69,7 +69,7 @@ same-under x y p rising also same =
     ] refl
     ∙ sym (cell-filter (is_prefix p) y r))
 
--- ---- what is covered
+-- ---- covered paths
 
 -- a put or delete sets all below its path
 sets_below : (p : List Step) (act : Act) (r : List Step) → checks_path act ≡ true → is_prefix p r ≡ true → is_some (act_setting p act r) ≡ true
@@ -103,7 +103,7 @@ covered_sets (op ∷ ops) s p r e below =
       | false ↦ λ other f. some_of_or (last_setting s ops r) (setting s op r) (covered_sets ops s p r f below)
     ] refl e
 
--- so below it the tree before does not matter
+-- so below it the tree before makes no difference
 covered_same : (x y : List Row) (ops : List Op) (s : Store) (p : List Step) → is_covered ops s p ≡ true → SameBelow p (apply_ops x s ops) (apply_ops y s ops)
 covered_same x y ops s p e r below =
     cell-apply_ops x s ops r
@@ -113,7 +113,7 @@ covered_same x y ops s p e r below =
     ] (covered_sets ops s p r e below)
     ∙ sym (cell-apply_ops y s ops r)
 
--- what covers a path above covers the path, also as one of more operations
+-- a path below a covered one is covered, also by more operations
 covered_below : (n : ℕ) (ops : List Op) (s : Store) (q p : List Step) → is_prefix q p ≡ true → is_covered (take n ops) s q ≡ true → is_covered ops s p ≡ true
 covered_below n ops s q p above e =
     let (i, op, at, here) = some_holds (covers s q) (take n ops) e in
@@ -121,7 +121,7 @@ covered_below n ops s q p above e =
     let covering : covers s p op ≡ true = (λ k. own k && prefix_below op.path q p over above k) in
     holds_some (covers s p) ops i op (in_front n ops i op at) covering
 
--- ---- what was read
+-- ---- reads
 
 module _ (base tip : Store → List Row) (ops : List Op) (quiet : AreReadsQuiet base tip ops) (n : ℕ) (s : Store) (p : List Step) where
   abbrev earlier : List Op
@@ -161,7 +161,7 @@ module _ (base tip : Store → List Row) (ops : List Op) (quiet : AreReadsQuiet 
   known-alike e =
       sym (same-under (apply_ops (base s) s earlier) (apply_ops (tip s) s earlier) p (IsAscending-apply_ops (base s) s earlier) (IsAscending-apply_ops (tip s) s earlier) (known_same e))
 
--- ---- what is recorded
+-- ---- recorded reads
 
 same_store-itself : (s : Store) → same_store s s ≡ true
 same_store-itself s = elim s as (λ t. same_store t t ≡ true) [ Config ↦ refl | Oper ↦ refl ]

@@ -35,12 +35,12 @@ IsSnapshot world answered b = (b.commit ≤ length (commits answered b.domain)) 
 abbrev pub IsPlain : Reply → Base → Type 0
 IsPlain reply b = ((commit : ℕ) × (reply ≡ Begun commit None)) ⊎ (b.chain ≡ None)
 
--- each such base is one
+-- each plain base is a snapshot
 abbrev pub AreSnapshots : List Domain → List Answered → Type 0
 AreSnapshots world answered = (place : ℕ) (a : Answered) (b : Base) → slice_get answered place ≡ Some a → a.began ≡ Some b → IsPlain a.reply b → IsSnapshot world answered b
 
 module _ (world : List Domain) where
-  -- one at the newest commit is such
+  -- a base at the newest commit is a snapshot
   newest-snapshot : (answered : List Answered) (domain : ℕ) (chain : Option ℕ) → IsSnapshot world answered (newest_base world answered domain chain)
   newest-snapshot answered domain chain =
       let cs = commits answered domain in
@@ -85,7 +85,7 @@ module _ (world : List Domain) where
     of_chain chain None = refl
     of_chain chain (Some x) = refl
 
-    -- a chain's next transaction that is such begins at the newest commit
+    -- a chain's next transaction that is plain begins at the newest commit
     chained_plain : (chain : ℕ) (b : Base) → chained_base world answered chain ≡ b → IsPlain (Begun (chained_base world answered chain).commit (stands_on answered chain)) b → IsSnapshot world answered b
     chained_plain chain b same (inl told) =
         let replied : Begun (chained_base world answered chain).commit (stands_on answered chain) ≡ Begun told.0 None = told.1 in
@@ -97,7 +97,7 @@ module _ (world : List Domain) where
         let of : b.chain ≡ Some chain = ap (λ (x : Base). x.chain) (sym same) ∙ of_chain chain (option_and_then (λ n. numbered (sents answered) n) (stands_on answered chain)) in
         absurd (none-some chain (sym none ∙ of))
 
-    -- what a call with its answer begins
+    -- the transaction that a call with its answer begins
     begins : (client : ℕ) (call : Call) (b : Base) → began_by world answered call (reply_to world answered client call) ≡ Some b → IsPlain (reply_to world answered client call) b → IsSnapshot world answered b
     begins client (Begin domain mode) b =
         cond_both (is_live world answered domain) (Begun (length (commits answered domain)) None) (Refused (NoDomain domain))

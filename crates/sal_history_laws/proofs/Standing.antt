@@ -32,7 +32,7 @@ some_there (Some x) e = (x, refl)
 
 -- ---- rows and cells
 
--- what holds of each row holds at each cell
+-- a property of each row is one of each cell
 pub at_cell : (t : Row → Bool) (rows : List Row) (r : List Step) (c : Cell) → list_all t rows ≡ true → cell rows r ≡ Some c → t (record { path = r; cell = c }) ≡ true
 at_cell t [] r c all e = absurd (nothing e)
 at_cell t (x ∷ rows) r c all e =
@@ -42,7 +42,7 @@ at_cell t (x ∷ rows) r c all e =
       | false ↦ λ is f. at_cell t rows r c rest f
     ] refl e
 
--- and the other way round, as the paths of a tree differ
+-- and conversely, since the paths of a tree differ
 pub at_rows : (t : Row → Bool) (rows : List Row) → IsAscending rows → ((r : List Step) (c : Cell) → cell rows r ≡ Some c → t (record { path = r; cell = c }) ≡ true) → list_all t rows ≡ true
 at_rows t [] rising all = refl
 at_rows t (x ∷ rows) rising all =
@@ -58,7 +58,7 @@ at_rows t (x ∷ rows) rising all =
           | false ↦ λ is. e
         ] refl
 
--- where something stands there is a cell
+-- if there is a row at or below a path there is a cell
 pub stands_below : (rows : List Row) (q : List Step) → has rows q ≡ true → (r : List Step) × (c : Cell) × (is_prefix q r ≡ true) × (cell rows r ≡ Some c)
 stands_below [] q e = cc
 stands_below (x ∷ rows) q e =
@@ -89,7 +89,7 @@ cell-next tree s ops op r = cell-apply_ops tree s (ops ++ op ∷ []) r ∙ cell_
 pub cell-mine : (tree : List Row) (s : Store) (ops : List Op) (op : Op) → same_store op.store s ≡ true → (r : List Step) → cell (apply_ops tree s (ops ++ op ∷ [])) r ≡ cell_by (act_setting op.path op.act r) (cell (apply_ops tree s ops) r)
 cell-mine tree s ops op mine r = cell-next tree s ops op r ∙ ap (λ x. cell_by x (cell (apply_ops tree s ops) r)) (setting-same s op r mine)
 
--- a read sets nothing
+-- a read sets no path
 pub setting-read : (s : Store) (op : Op) (r : List Step) → is_read op.act ≡ true → setting s op r ≡ None
 setting-read s op r reads = elim (same_store op.store s) as (λ b. (if b then act_setting op.path op.act r else None) ≡ None) [ true ↦ by op.act reads | false ↦ refl ]
   where

@@ -38,7 +38,7 @@ opening_is [] number sound s = refl
 opening_is (d ∷ world) zero sound s = subst (λ t. IsTrue (is_closed t (tree_of_opening d.opening s))) (sym (first-version d.table d.upgrades)) ((sound 0 d refl).opening s)
 opening_is (d ∷ world) (suc n) sound s = opening_is world n (λ k e at. sound (suc k) e at) s
 
--- ---- what stays
+-- ---- properties that stay
 
 pub lawful_stays : LawfulStays
 lawful_stays newer older base earlier [] good extends lawful = tt
@@ -52,7 +52,7 @@ lawful_stays newer older base earlier (op ∷ ops) good extends lawful = (
 pub closed_stays : ClosedStays
 closed_stays newer older trees good extends closed s = rows_stay newer older [] (trees s) good extends (closed s)
 
--- what was lawful at a version is so at each later one
+-- operations that are lawful at a version are lawful at each later one
 pub later_lawful : (world : List Domain) (v w : ℕ) (s : Sent) → AreSound world → v ≤ w → AreLawful (table_of world v s.base.domain) s.base.trees [] s.ops → AreLawful (table_of world w s.base.domain) s.base.trees [] s.ops
 later_lawful world v w s sound le = lawful_stays (table_of world w s.base.domain) (table_of world v s.base.domain) s.base.trees [] s.ops (table_is world v s.base.domain sound) (versions_extend world v w s.base.domain sound le)
 

@@ -1,4 +1,4 @@
--- What it is for rows to fit, cell by cell.
+-- When rows fit, cell by cell.
 use Rattle.std.proofs.Common.{◌≡◌, ℕ, Bool, true, false, ◌&&◌, not, ◌==◌, List, [], ◌∷◌, ◌++◌, get_or, Option, Some, None, inl, inr, refl, sym, ap, ◌∙◌, arith}
 use Rattle.std.specs.Prelude.{◌||◌, is_some, nat_eq}
 use Rattle.std.specs.List.{list_all, slice_get}
@@ -88,7 +88,7 @@ AllFit-fits table p rows rising all = at_rows (row_fits table p rows) rows risin
 
 -- ---- entries and presence containers
 
--- what needs no row is whole
+-- a path that needs no row is whole
 pub unmarked-whole : (table : SchemaTable) (rows : List Row) (q : List Step) → has_mark table (last_step q) ≡ false → is_whole_at table rows q ≡ true
 unmarked-whole table rows q e = by (last_step q) e (is_some (cell rows q))
   where
@@ -98,7 +98,7 @@ unmarked-whole table rows q e = by (last_step q) e (is_some (cell rows q))
     by (Some (Key values)) e b = cc
     by (Some (Item value)) e b = cc
 
--- what has a mark has its row
+-- a path with a mark has its row
 pub whole-row : (table : SchemaTable) (rows : List Row) (q : List Step) → has_mark table (last_step q) ≡ true → is_whole_at table rows q ≡ true → is_some (cell rows q) ≡ true
 whole-row table rows q marked whole =
     if_below (has_mark table (last_step q)) (is_some (cell rows q)) marked (and_parts (not (has_mark table (last_step q)) || is_some (cell rows q)) (has_keys table rows q (last_step q)) whole).0
@@ -118,7 +118,7 @@ module _ (rows others : List Row) (q : List Step) where
       let rest = same_key_leafs leafs values (λ other among. alike other (or_right (leaf == other) (is_among other leafs) among)) in
       λ i. option_map_or (λ d. eq_by_cmp cell_cmp d (Leaf value)) (here i) false && rest i
 
-  -- what is whole in one list is so in another one with the same cells there
+  -- a path that is whole in one list is whole in another list with the same cells there
   pub same_whole : (table : SchemaTable) → cell rows q ≡ cell others q → ((leaf : ℕ) → is_among leaf (leafs_at table q) ≡ true → cell rows (q ++ Node leaf ∷ []) ≡ cell others (q ++ Node leaf ∷ []))
       → is_whole_at table rows q ≡ is_whole_at table others q
   same_whole table here leafs = λ i. (not (has_mark table (last_step q)) || is_some (here i)) && keys (last_step q) i
@@ -160,7 +160,7 @@ module _ (rows others : List Row) (q : List Step) where
       keys (Some (Key values)) f = more_key_leafs (leafs_at table q) values grows f
       keys (Some (Item value)) f = refl
 
--- rows with the same cells fit alike
+-- rows with the same cells fit equally
 pub AllFit-same : (table : SchemaTable) (p : List Step) (rows others : List Row) → ((r : List Step) → cell others r ≡ cell rows r) → AllFit table p rows → AllFit table p others
 AllFit-same table p rows others alike all r c e =
     let it = all r c (sym (alike r) ∙ e) in

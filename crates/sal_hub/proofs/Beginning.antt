@@ -1,4 +1,4 @@
--- Calls that decide nothing, and transactions that begin: what is kept stays, and the transaction is one that the log gives.
+-- Calls that decide nothing, and transactions that begin: the invariants hold, and the transaction is the one of the log.
 use Rattle.std.proofs.Common.{◌≡◌, ℕ, ◌<◌, true, false, List, [], ◌∷◌, length, map, None, Some, ap, sym, ◌∙◌, subst, arith, length-append, if◌then◌else◌, refl}
 use Rattle.std.specs.Prelude.{slice_get}
 use Rattle.sal_types.specs.declared.value.Store.{Store}
@@ -49,7 +49,7 @@ module _ (journal journal' : Noted) (p : Pipeline) (is : IsKept journal p) (clie
   abbrev entry : Entry
   entry = record { client = client; number = entries_of journal.log client; call = call }
 
-  -- one that is none on mounts, and submits, decides, spends and opens nothing
+  -- a call that is not on mounts, and submits, decides, spends and opens nothing
   pub quiet_kept : upgraded call (reply_to (world_in (queue_of p).domains) (answers journal.log (queue_of p)) client call) ≡ false → mount_call call ≡ None → sent_by (answers journal.log (queue_of p)) call (reply_to (world_in (queue_of p).domains) (answers journal.log (queue_of p)) client call) ≡ None
       → decided_by (world_in (queue_of p).domains) (answers journal.log (queue_of p)) call ≡ []
       → ((k : ℕ) → spends call (reply_to (world_in (queue_of p).domains) (answers journal.log (queue_of p)) client call) k ≡ false)

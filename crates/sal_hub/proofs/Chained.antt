@@ -1,4 +1,4 @@
--- What is kept of chains stays the log's with each call.
+-- The state of chains stays that of the log with each call.
 use Rattle.std.proofs.Common.{◌≡◌, ℕ, zero, suc, ◌+◌, Bool, true, false, List, [], ◌∷◌, ◌++◌, length, Option, None, Some, refl, ap, sym, ◌∙◌, arith, append-nil, length-append, if◌then◌else◌, nat_eq}
 use Rattle.std.specs.Prelude.{slice_get, ◌||◌}
 use Rattle.std.specs.Option.{option_map_or, option_or, option_to_list}
@@ -20,7 +20,7 @@ use Rattle.sal_hub.proofs.Members.{last_from-some}
 use Rattle.sal_hub.proofs.Noted.{noted_within}
 use Rattle.sal_hub.proofs.Placed.{places_now}
 
--- what a submission adds to the last receipt of a chain
+-- the last receipt of a chain after a submission
 abbrev pub sent_in : ℕ → ℕ → Option Sent → Option ℕ
 sent_in count id None = None
 sent_in count id (Some s) = if is_in (Some id) s then Some (count + 1) else None
@@ -60,7 +60,7 @@ module _ (known : HubHistory) (e : Entry) (cs : Chains) (are : AreChains known c
     places = places_now w known.log e are.places begins;
   }
 
-  -- a call that opens, closes, begins and submits nothing of chains
+  -- a call that does not open, close, begin or submit in a chain
   pub steady : (cs' : Chains) → AreSame cs cs' → opened_chain e.call (reply_to known.world (history known.world known.log) e.client e.call) ≡ None
       → ((id : ℕ) → closes e.call (reply_to known.world (history known.world known.log) e.client e.call) id ≡ false)
       → ((id : ℕ) → begins_in id (now_of known.world (history known.world known.log) e) ≡ false)
@@ -82,7 +82,7 @@ module _ (known : HubHistory) (e : Entry) (cs : Chains) (are : AreChains known c
       of_one : ℕ → Option ℕ → Bool
       of_one id chain = is_of_chain (Some id) chain
 
--- as it is
+-- unchanged
 pub same_chains : (cs : Chains) → AreSame cs cs
 same_chains cs = record { domains = refl; closed = refl; begun = refl; sent = refl }
 

@@ -117,7 +117,7 @@ level (d ∷ ds) kept = ((each d.commits.items, with_opening d.commits.items (ke
     with_opening : (cs : List Commit) → 1 ≤ length cs → length (ops_of cs) + 1 ≡ length (receipts_of cs)
     with_opening cs some = omega (arith, length-ops_of cs some, length-map cs (λ (c : Commit). c.receipt - first_receipt cs), some)
 
--- what has grown is cut back to what it was
+-- longer lists are cut back to those before
 cut_back : (ds es : List DomainView) → AreLevel ds → HaveGrown ds es → cut_all es (counts_of ds) ≡ ds
 cut_back [] [] even grown = refl
 cut_back [] (e ∷ es) even grown = absurd grown
@@ -268,7 +268,7 @@ cut_reaches ds all ks i k d reach within d_is at_k so_far =
     let (e, at_e, same) = cut_since all (take i ks) i (shown d) here in
     subst (λ n. n ≤ k) (sym same) (reach i k e at_e at_k)
 
--- what was decided since is taken back
+-- the decisions since are undone
 HaveGrown-long : (ds es : List DomainView) → HaveGrown ds es → length es ≡ length ds
 HaveGrown-long [] [] grown = refl
 HaveGrown-long [] (e ∷ es) grown = absurd grown

@@ -1,4 +1,4 @@
--- What one more decision does.
+-- The effect of one more decision.
 use Rattle.std.proofs.Common.{◌≡◌, ℕ, zero, suc, ◌+◌, ◌-◌, ◌<◌, ◌≤◌, true, false, List, [], ◌∷◌, ◌++◌, drop, length, map, get_or, set, Option, None, Some, refl, ap, sym, ◌∙◌, subst, arith, append_assoc, append-nil, length-append, if◌then◌else◌, nat_eq, inl, inr}
 use Rattle.std.specs.Prelude.{not, slice_get, unwrap_or, ◌&&◌}
 use Rattle.std.specs.Option.{option_map, option_map_or, option_or}
@@ -157,7 +157,7 @@ cut_none_late ss queue sound =
     cut_fixed (length queue.outcomes) queue.failures (λ k.
     subst (λ (o : Option ℕ). up_to (length queue.outcomes) o ≡ o) (sym (sound.failures k)) (failing-fixed (Some k) ss queue.outcomes))
 
--- ---- what waits
+-- ---- pending submissions
 
 -- a submission that waits, among all
 pub sent_at : (ss : List Sent) (queue : PipelineView) → IsSound ss queue → (i : ℕ) (s : Submission) → slice_get queue.waiting i ≡ Some s → slice_get ss (queue.gone + i) ≡ Some (sent_of s)
@@ -170,7 +170,7 @@ count_is ss queue sound =
     let long : length queue.waiting ≡ length ss - queue.gone = sym (length-map queue.waiting sent_of) ∙ ap length sound.waiting ∙ length-drop queue.gone ss in
     omega (arith, long, sound.within, sound.behind)
 
--- what is decided is let go
+-- a decided submission is removed from the queue
 pub sound-shorter : (ss : List Sent) (queue : PipelineView) → IsSound ss queue → IsSound ss (shorter queue)
 sound-shorter ss queue sound =
     let more : ℕ = length queue.outcomes - queue.gone in
@@ -379,7 +379,7 @@ module _ (p : Pipeline) (kept : AllKept p.domains.items) (ss : List Sent) (sound
     pub receipt_now : IsNewReceipt d.commits.items sub.receipt
     receipt_now = new_receipt ss (queue_of p) sound (index - p.gone) place sub next d kept_here at
 
-    -- where memory was wanting
+    -- if memory ran out
     pub grown_nothing : (d' : Domain) (os : List Outcome) → IsSame d d' → d'.commits.items ≡ d.commits.items → os ≡ p.outcomes.items → HasGrown (queue_of p) (record { domains = map shown (set p.domains.items sub.domain d'); gone = p.gone; waiting = p.waiting.items; outcomes = os; failures = p.failures.items })
     grown_nothing d' os same commits old =
         let still : shown d' ≡ shown d = λ i. record {

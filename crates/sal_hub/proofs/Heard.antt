@@ -32,7 +32,7 @@ use Rattle.sal_hub.proofs.Listened.{commits-grow, listeners_now, removals, remov
 abbrev live_one : Listener → ℕ
 live_one l = cond l.live 1 0
 
--- ---- what is looked up
+-- ---- look-ups
 
 module _ (known : HubHistory) (ls : Listeners) (are : AreListeners known ls) where
   abbrev answered : List Answered
@@ -74,7 +74,7 @@ module _ (known : HubHistory) (ls : Listeners) (are : AreListeners known ls) whe
   pub domain_named : (id : ListenerId) (l : Listener) → IsListener known id → slice_get ls.list.items (id.number - 1) ≡ Some l → l.domain ≡ id.domain
   domain_named id l token at = same_Some l.domain id.domain (ap (option_map (λ (x : Listening). x.domain)) (sym (listener_is id.number l token.0 at)) ∙ token.1)
 
-  -- where one is live, some are
+  -- if one listener is live, the count is not 0
   pub some_live : (i : ℕ) (l : Listener) → slice_get ls.list.items i ≡ Some l → l.live ≡ true → 0 < ls.live
   some_live i l at live =
       let one : live_one (get_or ls.list.items i l) ≡ 1 = ap live_one (get_or_from_slice_get ls.list.items i l l at) ∙ ap (λ b. cond b 1 0) live in
@@ -245,7 +245,7 @@ module _ (known : HubHistory) (ls : Listeners) (are : AreListeners known ls) (cl
       (omega (arith, gone.live, are.counted, ap live_in list, sum_by-set live_one ls.list.items (n - 1) dead_one l within, one))
       (ap (λ x. ls'.live + cond (removes_one (Unlisten n) x) 1 0) reply ∙ (let back : ls'.live + 1 ≡ ls.live + 0 = omega (arith, gone.live, some) in back))
 
--- ---- as they were
+-- ---- unchanged
 
 pub same_listeners : (known : HubHistory) (ls ls' : Listeners) → AreSame ls ls' → AreListeners known ls → AreListeners known ls'
 same_listeners known ls ls' same are = record {

@@ -1,4 +1,4 @@
--- What one more entry does to the answered log.
+-- The answered log with one more entry.
 use Rattle.std.proofs.Common.{◌≡◌, ℕ, ◌+◌, ◌<◌, ◌≤◌, Bool, true, false, List, [], ◌∷◌, ◌++◌, length, Option, None, Some, refl, ap, sym, ◌∙◌, arith, append-nil, length-append, if◌then◌else◌}
 use Rattle.std.specs.Prelude.{option_and_then, slice_get, ◌||◌}
 use Rattle.std.specs.Option.{option_or, option_to_list}
@@ -98,12 +98,12 @@ module _ (world : List Domain) where
       let within : place < length (history world log) = omega (arith, length-history log, h) in
       ap (λ (a : List Answered). began_at a place) (history-push log e) ∙ ap (option_and_then (λ (a : Answered). a.began)) (slice_get_left (history world log) (now_of (history world log) e ∷ []) place within)
 
-  -- what the entry at a place has, it has in a longer log
+  -- a result for the entry at a place is the same in a longer log
   pub found-push : {X : Type 0} (f : Answered → Option X) (log : List Entry) (e : Entry) (place : ℕ) (x : X) → option_and_then f (slice_get (history world log) place) ≡ Some x → option_and_then f (slice_get (history world (log ++ e ∷ [])) place) ≡ Some x
   found-push f log e place x is =
       ap (λ (answered : List Answered). option_and_then f (slice_get answered place)) (history-push log e) ∙ found_more f (history world log) (now_of (history world log) e ∷ []) place x is
 
-  -- what the last entry has
+  -- the result for the last entry
   pub found-last : {X : Type 0} (f : Answered → Option X) (log : List Entry) (e : Entry) → option_and_then f (slice_get (history world (log ++ e ∷ [])) (length log)) ≡ f (now_of (history world log) e)
   found-last f log e =
       (λ i. option_and_then f (slice_get (history-push log e i) (sym (length-history log) i))) ∙ ap (option_and_then f) (slice_get_seam (history world log) (now_of (history world log) e) [])

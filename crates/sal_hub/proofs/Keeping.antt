@@ -1,4 +1,4 @@
--- What is kept stays the log's with each call.
+-- The pipeline stays that of the log with each call.
 use Rattle.std.proofs.Common.{◌≡◌, ℕ, ◌+◌, ◌≤◌, ◌<◌, Bool, true, false, List, [], ◌∷◌, ◌++◌, length, map, Option, None, Some, refl, ap, sym, ◌∙◌, subst, arith, append-nil, length-append, inl, inr}
 use Rattle.std.specs.Prelude.{◌||◌, slice_get}
 use Rattle.std.specs.Option.{option_to_list}
@@ -57,19 +57,19 @@ module _ (log : List Entry) (marks : List Bool) (queue : PipelineView) (was : Is
   abbrev reply : Reply
   reply = reply_to world answered e.client e.call
 
-  -- the same domains are live, where the call is none on mounts
+  -- the same domains are live, if the call is not on mounts
   pub still_live : (queue' : PipelineView) → mount_call e.call ≡ None → ((n : ℕ) → is_live_in queue'.domains n ≡ is_live_in queue.domains n) → (n : ℕ) → is_live_in queue'.domains n ≡ is_live (world_in queue.domains) (history (world_in queue.domains) (log ++ e ∷ [])) n
   still_live queue' unmounted same n = same n ∙ was.live n ∙ sym (live-quiet world log e n unmounted)
 
-  -- the present version stays, where the call is no good upgrade
+  -- the present version stays, unless the call is an accepted upgrade
   pub still_version : upgraded e.call (reply_to (world_in queue.domains) (answers log queue) e.client e.call) ≡ false → schema_version (history (world_in queue.domains) (log ++ e ∷ [])) ≡ schema_version (answers log queue)
   still_version none = ap schema_version (history-push world log e) ∙ schema_version-same answered (now_of world answered e) none
 
-  -- what the call submits, if anything, is of a transaction that began in a mode that writes
+  -- the transaction of a submission by the call, if it is one, began in a mode that writes
   abbrev pub IsWritten : Type 0
   IsWritten = (t : Sent) → sent_by (answers log queue) e.call (reply_to (world_in queue.domains) (answers log queue) e.client e.call) ≡ Some t → IsOfWriter (answers log queue) (length log) e.call t
 
-  -- what the call submits, if anything: the submissions with it, and its operations, which are lawful
+  -- the submissions with that of the call, if it is one, and its operations, which are lawful
   abbrev pub Adds : PipelineView → Type 0
   Adds queue' =
       IsSound (sents (answers log queue) ++ option_to_list (sent_by (answers log queue) e.call (reply_to (world_in queue.domains) (answers log queue) e.client e.call))) queue'
@@ -125,7 +125,7 @@ module _ (log : List Entry) (marks : List Bool) (queue : PipelineView) (was : Is
   long : (queue' : PipelineView) → world_in queue'.domains ≡ world_in queue.domains → length queue'.domains ≡ length queue.domains
   long queue' same = sym (length-map queue'.domains opened_as) ∙ ap length same ∙ length-map queue.domains opened_as
 
-  -- the entry with what it leaves, by the versions that its log gives
+  -- the entry with its trees, by the versions that its log gives
   pub pushed_as : (queue' : PipelineView) (marks' : List Bool) → Adds queue' → world_in queue'.domains ≡ world_in queue.domains
       → ((n : ℕ) → table_in queue'.domains n ≡ tables_now (world_in queue.domains) (history (world_in queue.domains) (log ++ e ∷ [])) n)
       → ((n : ℕ) → n < length queue.domains → version_of queue'.domains n ≡ number_of (schema_version (history (world_in queue.domains) (log ++ e ∷ []))) n)
@@ -155,7 +155,7 @@ module _ (log : List Entry) (marks : List Bool) (queue : PipelineView) (was : Is
     versions = λ n low. versions n (omega (arith, low, long queue' same)) ∙ (λ i. number_of (schema_version (history (sym same i) (log ++ e ∷ []))) n);
   }
 
-  -- the same of a call that is no good upgrade: each domain has the version that it had
+  -- the same for a call that is not an accepted upgrade: each domain keeps its version
   pub pushed : upgraded e.call (reply_to (world_in queue.domains) (answers log queue) e.client e.call) ≡ false → (queue' : PipelineView) (marks' : List Bool) → Adds queue' → world_in queue'.domains ≡ world_in queue.domains
       → KeepVersions queue.domains queue'.domains
       → queue'.outcomes ≡ queue.outcomes ++ decided_by (world_in queue.domains) (answers log queue) e.call
@@ -169,7 +169,7 @@ module _ (log : List Entry) (marks : List Bool) (queue : PipelineView) (was : Is
       (λ n low. kept.versions n ∙ was.versions n low ∙ ap (λ v. number_of v n) (sym (still_version none)))
       decided marked opened live
 
-  -- a call that is none on mounts, and submits, decides, spends and opens nothing
+  -- a call that is not on mounts, and submits, decides, spends and opens nothing
   pub quiet : upgraded e.call (reply_to (world_in queue.domains) (answers log queue) e.client e.call) ≡ false → (marks' : List Bool) → mount_call e.call ≡ None → sent_by (answers log queue) e.call (reply_to (world_in queue.domains) (answers log queue) e.client e.call) ≡ None → decided_by (world_in queue.domains) (answers log queue) e.call ≡ []
       → ((k : ℕ) → spends e.call (reply_to (world_in queue.domains) (answers log queue) e.client e.call) k ≡ false) → ((k : ℕ) → mark_at marks' k ≡ mark_at marks k)
       → opened_chain e.call (reply_to (world_in queue.domains) (answers log queue) e.client e.call) ≡ None
@@ -237,7 +237,7 @@ length-submissions log marks queue was = count_is (sents (answers log queue)) qu
 abbrev pub as_stored : DomainView → DomainView → DomainView
 as_stored d e = record d { live = e.live; table = e.table; version = e.version; since = e.since }
 
--- as many domains, and nothing else of them changes
+-- as many domains, which may differ only in `live`, `table`, `version` and `since`
 pub sound_over : (ss : List Sent) (queue : PipelineView) (ds : List DomainView) → length ds ≡ length queue.domains
     → ((n : ℕ) (e : DomainView) → slice_get ds n ≡ Some e → (d : DomainView) × (slice_get queue.domains n ≡ Some d) × (e ≡ as_stored d e))
     → IsSound ss queue → IsSound ss (record { domains = ds; gone = queue.gone; waiting = queue.waiting; outcomes = queue.outcomes; failures = queue.failures })

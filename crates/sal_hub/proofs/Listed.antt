@@ -6,7 +6,7 @@ use Rattle.std.proofs.Math.Seq.{take-append_seam}
 use Rattle.sal_hub.specs.PipelineView.{Grows}
 pub use Rattle.sal_types.proofs.Lists.{last_or_before}
 
--- what code reads at an index
+-- an element that the code reads at an index
 pub slice_get_at : {X : Type 0} (xs : List X) (i : ℕ) (x : X) → i < length xs → x ≡ get_or xs i x → slice_get xs i ≡ Some x
 slice_get_at [] i x h e = absurd (omega arith)
 slice_get_at (y ∷ xs) zero x h e = ap Some (sym e)
@@ -50,7 +50,7 @@ pub slice_get_seam : {X : Type 0} (xs : List X) (y : X) (ys : List X) → slice_
 slice_get_seam [] y ys = refl
 slice_get_seam (x ∷ xs) y ys = slice_get_seam xs y ys
 
--- what is found at an index of a list is found there in a longer one
+-- an element found at an index is found there in a longer list
 pub found_more : {X Y : Type 0} (f : X → Option Y) (xs ys : List X) (k : ℕ) (y : Y) → option_and_then f (slice_get xs k) ≡ Some y → option_and_then f (slice_get (xs ++ ys) k) ≡ Some y
 found_more f [] ys k y e = cc
 found_more f (x ∷ xs) ys zero y e = e
@@ -67,7 +67,7 @@ slice_get-drop (x ∷ xs) (suc k) i = let next : suc (k + i) ≡ suc k + i = ome
 pub Grows-then : {X : Type 0} (xs ys zs : List X) → Grows xs ys → Grows ys zs → Grows xs zs
 Grows-then xs ys zs g h = (g.0 ++ h.0, h.1 ∙ ap (λ us. us ++ h.0) g.1 ∙ append_assoc xs g.0 h.0)
 
--- what was there can be cut back to
+-- a longer list is cut back to the one before
 pub take-Grows : {X : Type 0} (xs ys : List X) → Grows xs ys → take (length xs) ys ≡ xs
 take-Grows xs ys g = ap (take (length xs)) g.1 ∙ take-append_seam xs g.0
 

@@ -1,4 +1,4 @@
--- What is kept of listeners stays the log's with each call.
+-- The state of listeners stays that of the log with each call.
 use Rattle.std.proofs.Common.{◌≡◌, ℕ, ◌+◌, ◌<◌, ◌≤◌, Bool, true, false, not, cond, List, [], ◌∷◌, ◌++◌, length, map, count_by, Option, None, Some, refl, ap, sym, ◌∙◌, subst, arith, append-nil, length-append}
 use Rattle.std.specs.Prelude.{slice_get, unwrap_or, ◌||◌}
 use Rattle.std.specs.Option.{option_map, option_to_list}
@@ -105,7 +105,7 @@ named_last known e id was = (was.0, last (listener_at (history known.world known
     last None at is = cc
     last (Some l) at is = ap (option_map (λ (x : Listening). x.domain)) (made_last known e id.number l at) ∙ is
 
--- ---- what is kept
+-- ---- the state of listeners
 
 module _ (known : HubHistory) (e : Entry) (ls : Listeners) (are : AreListeners known ls) where
   abbrev answered : List Answered

@@ -28,7 +28,7 @@ or_cases false b e = inr e
 pub is_device_low : (devices n : ℕ) → is_device devices n ≡ true → n < devices
 is_device_low devices n is = grind (arith, nat_tests)
 
--- what is mounted is a device
+-- only devices are mounted
 pub accepted_device : (b : Bool) (f : MountFault) (o : Option MountFault) → refused_or (option_or (fault_if (not b) f) o) ≡ Accepted → b ≡ true
 accepted_device true f o e = refl
 accepted_device false f o e = cc
@@ -79,7 +79,7 @@ live_there world some answered n live =
 
 -- ---- one call more
 
--- nothing is mounted or unmounted
+-- no mount and no unmount
 pub live-same : (made : List Made) (m : Made) → mounts m.call m.reply ≡ None → ((n : ℕ) → unmounts m.call m.reply n ≡ false) → (n : ℕ) → is_up (made ++ m ∷ []) n ≡ is_up made n
 live-same made m no_mount no_unmount n =
     λ i. nat_eq n 0 || (list_any (λ (x : Mounted). nat_eq x.device n) (mounted-same made m no_mount i) && not (gone-same made m n (no_unmount n) i))

@@ -74,7 +74,7 @@ length-with [] i b = refl
 length-with (d ∷ ds) zero b = refl
 length-with (d ∷ ds) (suc i) b = ap suc (length-with ds i b)
 
--- as code writes it
+-- as the code writes it
 shown-with : (ds : List Stored) (i : ℕ) (b : Bool) (d d' : Stored) → i < length ds → d ≡ get_or ds i d → shown d' ≡ record (shown d) { live = b } → map shown (set ds i d') ≡ with_live (map shown ds) i b
 shown-with [] i b d d' h is same = absurd (omega (arith, h))
 shown-with (x ∷ ds) zero b d d' h is same = ap (λ (e : DomainView). e ∷ map shown ds) (same ∙ (λ j. (let e : DomainView = record (shown (is j)) { live = b } in e)))
@@ -84,7 +84,7 @@ pub line_with : (p : Pipeline) (i : ℕ) (b : Bool) (d d' : Stored) → i < leng
     → ◌≡◌ {A = PipelineView} (record { domains = map shown (set p.domains.items i d'); gone = p.gone; waiting = p.waiting.items; outcomes = p.outcomes.items; failures = p.failures.items }) (set_live (queue_of p) i b)
 line_with p i b d d' h is same = λ j. record { domains = shown-with p.domains.items i b d d' h is same j; gone = p.gone; waiting = p.waiting.items; outcomes = p.outcomes.items; failures = p.failures.items }
 
--- nothing else of a domain changes
+-- only this part of a domain changes
 at-with : (ds : List DomainView) (i : ℕ) (b : Bool) (n : ℕ) (e : DomainView) → slice_get (with_live ds i b) n ≡ Some e → (d : DomainView) × (slice_get ds n ≡ Some d) × (e ≡ as_stored d e)
 at-with [] i b n e at = cc
 at-with (d ∷ ds) zero b zero e at = (
@@ -99,7 +99,7 @@ at-with (d ∷ ds) (suc i) b (suc n) e at = at-with ds i b n e at
 sound-with : (ss : List Sent) (queue : PipelineView) (i : ℕ) (b : Bool) → IsSound ss queue → IsSound ss (set_live queue i b)
 sound-with ss queue i b = sound_over ss queue (with_live queue.domains i b) (length-with queue.domains i b) (at-with queue.domains i b)
 
--- ---- what follows from an answer
+-- ---- consequences of an answer
 
 accepted_fresh : (a b : Bool) (f g : MountFault) (o : Option MountFault) → refused_or (option_or (fault_if a f) (option_or (fault_if b g) o)) ≡ Accepted → b ≡ false
 accepted_fresh true b f g o e = cc
@@ -183,7 +183,7 @@ module _ (journal journal' : Noted) (p : Pipeline) (is : IsKept journal p) (r r'
           (failed ∙ none_more (length p.failures.items) ∙ ap (λ (o : Option ℕ). length p.failures.items + length (option_to_list o)) (sym (serving_unopened call on shared)))
           (λ n. lives n ∙ sym (live_more n))))
 
-    -- one that mounts and unmounts nothing
+    -- a call that mounts and unmounts nothing
     module _ (entered : IsJotted journal journal' client call) (no_mount : mounts m reply ≡ None) (no_unmount : (n : ℕ) → unmounts m reply n ≡ false) where
       pub same_kept : IsKept journal' p
       same_kept = record {
@@ -211,7 +211,7 @@ module _ (journal journal' : Noted) (p : Pipeline) (is : IsKept journal p) (r r'
         let_go = ap (λ (l : PipelineView). l.gone) queue ∙ is.let_go ∙ ap (λ (l : PipelineView). length l.outcomes) (sym queue);
       }
 
--- ---- a call that is refused, or for which memory is wanting
+-- ---- a call that is refused, or fails for lack of memory
 
 module _ (journal journal' : Noted) (p : Pipeline) (is : IsKept journal p) (r r' : Register) (are : AreMounted (known_of journal p) r) (client : ℕ) (call : Call) (m : MountCall) (asks : mount_call call ≡ Some m) where
   no_mount_refused : (c : MountCall) (fault : MountFault) → mounts c (Refused fault) ≡ None

@@ -52,7 +52,7 @@ shown-anew rules d d' is = λ i. record {
   receipts = is.receipts i;
 }
 
--- the first so many of them
+-- the first domains of them, up to a number
 abbrev pub begun_upto : Rules → ℕ → List DomainView → List DomainView
 begun_upto rules zero ds = ds
 begun_upto rules (suc n) [] = []
@@ -93,7 +93,7 @@ anew-all-kept ds n d' are all = All-set (λ (x : Stored). AreKept x.commits.item
 
 -- ---- versions
 
--- those from one on are those behind it
+-- the versions from one on are this version and those after it
 versions-on : (table : SchemaTable) (upgrades : List SchemaTable) (m v : ℕ) → version_from (version_from table upgrades m) (drop m upgrades) v ≡ version_from table upgrades (m + v)
 versions-on table upgrades zero v =
     let same : v ≡ 0 + v = omega arith in
@@ -182,7 +182,7 @@ module _ (rules : Rules) (log : List Entry) (marks : List Bool) (queue : Pipelin
       world-from 0 queue.domains (λ k d at. let same : k ≡ 0 + k = omega arith in opened-next k d at ∙ ap (next_domain rules known) same)
       ∙ ap (next_from rules known 0) (sym (length-map queue.domains opened_as))
 
-  -- ---- what the next hub keeps
+  -- ---- the invariants of the next hub
 
   pub next-first : AreFirst (begun_views rules queue.domains)
   next-first = record {

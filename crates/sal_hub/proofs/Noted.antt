@@ -1,4 +1,4 @@
--- What lists have for chains, by their ids.
+-- The lists of chains, by the chains' ids.
 use Rattle.std.proofs.Common.{◌≡◌, ℕ, zero, suc, ◌+◌, ◌-◌, ◌<◌, ◌≤◌, Bool, true, false, not, ◌&&◌, List, [], ◌∷◌, ◌++◌, length, drop, get_or, set, take, Option, None, Some, refl, ap, sym, ◌∙◌, arith, length-set, if◌then◌else◌, nat_eq, nat_le}
 use Rattle.std.specs.Prelude.{slice_get, option_and_then, unwrap_or}
 use Rattle.std.specs.Option.{option_or}
@@ -84,7 +84,7 @@ pub flag_in-push : (xs : List Bool) (k : ℕ) → flag_in (xs ++ false ∷ []) k
 flag_in-push xs zero = refl
 flag_in-push xs (suc i) = push_false xs i
 
--- ---- what code reads
+-- ---- elements that the code reads
 
 pub at_chain_at : {X : Type 0} (xs : List X) (c : ℕ) (x : X) → 0 < c → c ≤ length xs → x ≡ get_or xs (c - 1) x → at_chain xs c ≡ Some x
 at_chain_at xs zero x low high is = absurd (omega (arith, low))
@@ -105,7 +105,7 @@ pub flag_or : (xs : List Bool) (c : ℕ) → 0 < c → get_or xs (c - 1) false �
 flag_or xs zero low = absurd (omega (arith, low))
 flag_or xs (suc i) low = ap (λ j. get_or xs j false) (less_one i) ∙ flag_or_at xs i
 
--- what is kept is kept for a chain
+-- an index with a number is within the list
 some_within : (xs : List (Option ℕ)) (i n : ℕ) → option_and_then (λ (x : Option ℕ). x) (slice_get xs i) ≡ Some n → i < length xs
 some_within [] i n e = cc
 some_within (x ∷ xs) zero n e = omega arith

@@ -1,4 +1,4 @@
--- The calls on notifications among those of the log: what a call leaves, and what it is answered.
+-- The calls on notifications among those of the log: the state after a call, and its answer.
 use Rattle.std.proofs.Common.{◌≡◌, ℕ, suc, ◌<◌, ◌≤◌, true, List, [], ◌∷◌, ◌++◌, length, Option, None, Some, arith, refl, ap, sym, ◌∙◌, subst}
 use Rattle.std.specs.List.{cons_option}
 use Rattle.std.specs.Option.{option_to_list}
@@ -78,7 +78,7 @@ has_room j p b noted room note =
 
 -- ---- a call of a client
 
--- what a call leaves that answers with a fault
+-- the state after a call that fails
 pub record Failed (known : HubHistory) (j : Noted) (p : Pipeline) (b : Boxes) (e : Entry) (fault : NoteFault) : Type 0 where
   pub kept : IsKept j p
   pub noted : AreNoted (known_of j p) b

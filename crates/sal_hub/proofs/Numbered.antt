@@ -9,7 +9,7 @@ use Rattle.sal_commit.specs.Stamps.{first_receipt, receipts_of}
 use Rattle.sal_history.specs.Submissions.{Sent, if_done, is_done}
 use Rattle.sal_hub.specs.CommitReceipts.{commit_receipts, receipts_from}
 
--- ---- what one more submission or outcome adds
+-- ---- one more submission or outcome
 
 abbrev pub added_receipt : ℕ → Sent → Outcome → ℕ → List ℕ
 added_receipt n s o r = if nat_eq s.base.domain n then if_done o r else []

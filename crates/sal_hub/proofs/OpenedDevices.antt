@@ -107,7 +107,7 @@ sound_device rules device tables closed chain = record {
     by Config = closed.config
     by Oper = closed.oper
 
--- what devices with closed opening trees open has sound openings
+-- devices with closed opening trees give sound openings
 sound_openings : (rules : Rules) (devices : List Device) → AllByRecursion HaveTables devices → AreClosedDevices devices
     → ((k : ℕ) (d : world.Domain) → slice_get (world_of rules devices) k ≡ Some d → IsChain d.table d.upgrades) → AreSound (world_of rules devices)
 sound_openings rules [] tables closed chains k domain at = absurd (none-some domain at)
@@ -125,7 +125,7 @@ or_none : (b : Bool) → b ≡ (b || (false && not false))
 or_none true = refl
 or_none false = refl
 
--- the controller's own domain alone is live
+-- only the controller's own domain is live
 first-live : (ds : List DomainView) (n : ℕ) → AreFirst ds → is_live_in ds n ≡ nat_eq n 0
 first-live ds n first = elim (cases_lt n (length ds)) [
   | inl low ↦ let (d, at) = slice_get_some ds n low in live-here ds n d at ∙ (first.each n d at).live
@@ -151,7 +151,7 @@ first-table ds n first = elim (cases_lt n (length ds)) [
     no-table-at (x ∷ w) zero v none = cc
     no-table-at (x ∷ w) (suc n) v none = no-table-at w n v none
 
--- what a hub keeps without calls
+-- the invariants of a hub without calls
 pub first_kept : (p : Pipeline) (journal : Noted) → AreFirst (queue_of p).domains → AreSound (world_in (queue_of p).domains) → OneIsUpgraded (world_in (queue_of p).domains) → AllKept p.domains.items
     → p.gone ≡ 0 → p.waiting.items ≡ [] → p.outcomes.items ≡ [] → p.failures.items ≡ [] → journal ≡ record { log = []; marks = [] } → IsKept journal p
 first_kept p journal first sound only kept zeroth none undecided unopened empty =

@@ -1,4 +1,4 @@
--- The calls on the router among those of the log: what a call leaves, and what it is answered.
+-- The calls on the router among those of the log: the state after a call, and its answer.
 use Rattle.std.proofs.Common.{◌≡◌, ℕ, zero, suc, ◌+◌, ◌<◌, true, List, [], ◌∷◌, ◌++◌, length, Option, None, Some, refl, ap, sym, ◌∙◌, subst, arith, append-nil, if◌then◌else◌}
 use Rattle.std.specs.Prelude.{is_some, unwrap_or}
 use Rattle.std.specs.Option.{option_map, option_to_list}
@@ -81,7 +81,7 @@ serving c = refl
 
 -- ---- a call of a client
 
--- what a call leaves that answers with a fault
+-- the state after a call that fails
 pub record Failed (known : HubHistory) (j : Noted) (p : Pipeline) (r : Routes) (e : Entry) (fault : RpcFault) : Type 0 where
   pub kept : IsKept j p
   pub routed : AreRouted (known_of j p) r
@@ -141,12 +141,12 @@ module _ (j j' : Noted) (p : Pipeline) (kept : IsKept j p) (client : ℕ) (c : R
       pub failed_call : (fault : RpcFault) (j'' : Noted) → j'' ≡ left_by fault j' → length j.log < 1000000 → router.Fails r r' client c fault → Failed (known_of j p) j'' p r' (entry_of (known_of j p) client (shared c)) fault
       failed_call fault j'' left room fails = subst (λ (x : Noted). Failed (known_of j p) x p r' (entry_of (known_of j p) client (shared c)) fault) (sym left) (failed_at fault room fails)
 
--- what a next call is answered
+-- the answer to a next call
 pub next_reply_is : (o : Option Request) → rpc_reply 0 (next_reply o) ≡ request_reply o
 next_reply_is None = refl
 next_reply_is (Some request) = refl
 
--- what a collection is answered, of a request that was made
+-- the answer to a collection, for a request that was made
 pub collect_reply_is : (known : HubHistory) (id : CallId) (o : Option (List Row)) → IsCall known id → rpc_reply (unwrap_or (rpc_of (history known.world known.log) id.number) 0) (output o) ≡ collect_reply id.rpc o
 collect_reply_is known id None is = refl
 collect_reply_is known id (Some rows) is = ap (λ (rpc : Option ℕ). rpc_reply (unwrap_or rpc 0) (output (Some rows))) is.1

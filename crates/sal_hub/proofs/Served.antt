@@ -1,4 +1,4 @@
--- What is kept of services stays the log's with each call that is on none of them.
+-- The states of services stay those of the log with each call that is on none of them.
 use Rattle.std.proofs.Common.{◌≡◌, ◌⊎◌, ℕ, Bool, true, false, List, [], ◌∷◌, ◌++◌, Option, None, Some, refl, ap, sym, ◌∙◌, subst, append-nil, inl, inr}
 use Rattle.std.specs.Option.{option_map, option_map_or, option_to_list}
 use Rattle.sal_rows.specs.Spans.{is_of_chain}
@@ -49,7 +49,7 @@ is_serving (Unmount domain) = true
 is_serving (MountAt path) = true
 is_serving call = false
 
--- ---- a call on none leaves them as they were
+-- ---- a call on no service changes none of them
 
 unmounting : (call : Call) → is_serving call ≡ false → mount_call call ≡ None
 unmounting (Mount path device) e = cc
@@ -103,7 +103,7 @@ served_steady known e sv other are = record {
   notes = noted_steady known e sv.notes (unnoting e.call other) are.notes;
 }
 
--- ---- a call on one service leaves the others as they were
+-- ---- a call on one service does not change the others
 
 module _ (old new : HubHistory) (e : Entry) (how : (new ≡ old) ⊎ (new ≡ more old e)) (sv : Services) (are : AreServed old sv) where
   still_mounted : mount_call e.call ≡ None → (new ≡ old) ⊎ (new ≡ more old e) → AreMounted new sv.mounts
@@ -127,7 +127,7 @@ module _ (old new : HubHistory) (e : Entry) (how : (new ≡ old) ⊎ (new ≡ mo
   pub served_by_notes : (notes : boxes.Boxes) → mount_call e.call ≡ None → rpc_call e.call ≡ None → AreNoted new notes → AreServed new (record sv { notes = notes })
   served_by_notes notes unmounted unrouted now = record { mounts = still_mounted unmounted how; router = still_routed unrouted how; notes = now }
 
--- ---- a call on one leaves all else as it was
+-- ---- a call on one service changes nothing else
 
 pub serving_unheard : (call : Call) → is_serving call ≡ true → is_listening call ≡ false
 serving_unheard (Listen domain s path) e = cc

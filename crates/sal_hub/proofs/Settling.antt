@@ -101,7 +101,7 @@ module _ (journal journal' : Noted) (p p' : Pipeline) (is : IsKept journal p) (c
   pub decided_made : (r : Reply) → length journal.log < 1000000 → reply_to (world_in (queue_of p).domains) (answers journal.log (queue_of p)) client call ≡ r → Made (known_of journal p) (known_of journal' p') (record { client = client; number = entries_of journal.log client; call = call }) r
   decided_made r room reply = record { room = room; log = λ i. record { world = decided.world i; log = log i }; reply = reply }
 
--- what is decided, by what is kept
+-- the decisions, by the invariants
 kept_decides : (journal : Noted) (p : Pipeline) (is : IsKept journal p) (n : ℕ)
     → decide_next (world_in (queue_of p).domains) (tables_now (world_in (queue_of p).domains) (answers journal.log (queue_of p))) (is_live (world_in (queue_of p).domains) (answers journal.log (queue_of p))) (sents (answers journal.log (queue_of p))) (outcomes (answers journal.log (queue_of p))) n
     ≡ decide_next (world_in (queue_of p).domains) (table_in (queue_of p).domains) (is_live_in (queue_of p).domains) (sents (answers journal.log (queue_of p))) p.outcomes.items n
@@ -149,7 +149,7 @@ module _ (journal journal' : Noted) (p p' : Pipeline) (is : IsKept journal p) (c
       decided_made journal journal' p p' is client (Settle n) (n - length p.outcomes.items) log decided (Settled receipt.domain o) room
       ((λ i. settled (submission i) (numbered-at all n o given.0 outcome i)) ∙ ap (λ d. Settled d o) of_domain)
 
--- where nothing was decided, all is as it was
+-- without a decision nothing changes
 pub unsettled_kept : (journal journal' : Noted) (p p' : Pipeline) → IsKept journal p → AllKept p'.domains.items → queue_of p' ≡ queue_of p → journal' ≡ journal → IsKept journal' p'
 unsettled_kept journal journal' p p' is kept same undone = record {
   kept = kept;

@@ -24,7 +24,7 @@ use Rattle.sal_hub.proofs.Living.{live_there}
 abbrev pub IsAt : List Domain → List Answered → Base → Type 0
 IsAt world answered base = (base.domain < length world) × (base.commit ≤ length (commits answered base.domain))
 
--- ---- commits are not taken back
+-- ---- commits are never undone
 
 done-more : (n : ℕ) (ss ts : List Sent) (os ps : List Outcome) → length (done n ss os) ≤ length (done n (ss ++ ts) (os ++ ps))
 done-more n [] ts os ps = omega arith
@@ -49,7 +49,7 @@ commits-more world answered e n =
 later : (world : List Domain) (answered : List Answered) (e : Entry) (b : Base) → IsAt world answered b → IsAt world (answer world answered e) b
 later world answered e b is = (is.0, omega (arith, commits-more world answered e b.domain, is.1))
 
--- ---- what is allowed is live
+-- ---- an accepted call is in a live domain
 
 last_none : (a b c d : Option CallFault) → option_or a (option_or b (option_or c d)) ≡ None → d ≡ None
 last_none None None None d e = e
@@ -79,7 +79,7 @@ began_last [] (suc k) a c at = cc
 began_last (x ∷ xs) zero a c at = inl at
 began_last (x ∷ xs) (suc k) a c at = began_last xs k a c at
 
--- and a submission likewise
+-- and so for a submission
 pub sent_last : (xs : List Sent) (o : Option Sent) (k : ℕ) (t : Sent) → slice_get (xs ++ option_to_list o) k ≡ Some t → (slice_get xs k ≡ Some t) ⊎ (o ≡ Some t)
 sent_last xs None k t at = inl (ap (λ (ys : List Sent). slice_get ys k) (sym (append-nil xs)) ∙ at)
 sent_last xs (Some x) k t at = elim (last_or_before xs x t k at) [ inl old ↦ inl old | inr w ↦ inr (ap Some w.1) ]

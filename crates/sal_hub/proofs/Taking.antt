@@ -25,7 +25,7 @@ use Rattle.sal_hub.proofs.Listed.{slice_get_some}
 use Rattle.sal_hub.proofs.Serving.{count_is, domain_is, domains_are}
 use Rattle.sal_hub.proofs.Telling.{gone_reply, refused_listeners, told_reply, ungone_reply, untold_reply, with_next}
 
--- what was read at an index is the item there
+-- the element that was read at an index
 pub same_at : {X : Type 0} (xs : List X) (i : ℕ) (x y : X) → x ≡ get_or xs i x → slice_get xs i ≡ Some y → x ≡ y
 same_at xs i x y read at = read ∙ get_or_from_slice_get xs i y x at
 

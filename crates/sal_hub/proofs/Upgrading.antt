@@ -79,7 +79,7 @@ module _ (d : Stored) (version : ℕ) (low : 1 ≤ version) (own : nat_eq d.vers
   breach_refused fault s b is (inl full) = let no : Broken s b ≡ Full = sym is ∙ full in cc
   breach_refused fault s b is (inr e) = by_trees ∙ ap (option_map call_fault) (e ∙ ap Some is)
 
--- what is ready, and what is refused
+-- ready and refused upgrades
 pub ready_next : (d : Stored) (version : ℕ) (r : Result NextVersion CallFault) (next : NextVersion) → r ≡ Ok next → IsReady d version r
     → (refusal_of d version ≡ None) × (upgrade_fault d version ≡ None) × (next.number ≡ version) × (next.schema.value ≡ version_in d version)
 ready_next d version r next is ready = subst (IsReady d version) is ready
@@ -109,7 +109,7 @@ upgraded-shown d d' version are up = λ i. record {
   receipts = receipts_of (up.commits i);
 }
 
--- as code writes it
+-- as the code writes it
 first-shown : (ds : List Stored) (d d' : Stored) (version : ℕ) → 0 < length ds → d ≡ get_or ds 0 d → AreKept d.commits.items → Upgrades d version d' → map shown (set ds 0 d') ≡ with_version (map shown ds) version
 first-shown [] d d' version some is are up = absurd (omega (arith, some))
 first-shown (x ∷ ds) d d' version some is are up =
@@ -124,7 +124,7 @@ line_upgraded p d d' version some is are up = λ j. record { domains = first-sho
 pub kept_upgraded : (ds : List Stored) (d d' : Stored) (version : ℕ) → AllKept ds → AreKept d.commits.items → Upgrades d version d' → AllKept (set ds 0 d')
 kept_upgraded ds d d' version all are up = All-set (λ (x : Stored). AreKept x.commits.items) ds 0 d' (subst AreKept (sym up.commits) are) all
 
--- nothing else changes
+-- the rest is unchanged
 world-upgraded : (ds : List DomainView) (v : ℕ) → world_in (with_version ds v) ≡ world_in ds
 world-upgraded [] v = refl
 world-upgraded (d ∷ ds) v = refl
@@ -225,7 +225,7 @@ module _ (journal journal' : Noted) (p : Pipeline) (is : IsKept journal p) (clie
     number (Upgrade v) = v
     number call = 0
 
-    -- the version that the entry goes to
+    -- the version after the entry
     next : schema_version (history world_now (journal.log ++ entry ∷ [])) ≡ version
     unfolding number
     next =

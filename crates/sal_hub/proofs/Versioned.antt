@@ -17,7 +17,7 @@ use Rattle.sal_hub.specs.Journals.{Noted}
 use Rattle.sal_hub.specs.PipelineView.{queue_of, shown, world_in}
 use Rattle.sal_hub.proofs.Deciding.{table-at, version-here}
 
--- a domain's table at the version of domain 0 is that of its own version
+-- a domain's table by the version of domain 0 is the one by its own version
 pub numbered : (world : List Domain) (v n : ℕ) → OneIsUpgraded world → table_of world v n ≡ table_of world (number_of v n) n
 numbered world v zero only = let own : nat_eq 0 0 ≡ true = grind (arith, nat_tests) in ap (λ b. table_of world (if b then v else 0) 0) (sym own)
 numbered world v (suc n) only =

@@ -83,7 +83,7 @@ sent_refused answered call f = refl
 
 -- ---- one call
 
--- what is still the log's, where nothing of chains and no mark changed
+-- the invariants of the log that stay, if no chain and no mark changed
 module _ (journal journal' : Noted) (p p' : Pipeline) (cs : Chains) (ms : Marks) (ls : Listeners) (sv : Services) (whole : IsWhole journal p cs ms ls sv) (kept : IsKept journal' p') where
   pub whole_same : known_of journal' p' ≡ known_of journal p → IsWhole journal' p' cs ms ls sv
   whole_same same = record {
@@ -135,7 +135,7 @@ module _ (journal journal' : Noted) (p p' : Pipeline) (cs : Chains) (ms : Marks)
     whole_fails unserved NoMemory fails = whole_same fails
     whole_fails unserved fault fails = whole_refused unserved fault fails
 
-    -- a call that opens, closes, begins and submits nothing of chains, whatever it is answered
+    -- a call that does not open, close, begin or submit in a chain, with any answer
     pub whole_called : {X : Type 0} (good : X → Reply) (r : Result X CallFault) → is_listening e.call ≡ false → is_serving e.call ≡ false → Calls (known_of journal p) (known_of journal' p') e good r
         → ((reply : Reply) → opened_chain e.call reply ≡ None) → ((reply : Reply) (id : ℕ) → closes e.call reply id ≡ false)
         → ((reply : Reply) (id : ℕ) → option_map_or (λ (b : Base). is_of_chain (Some id) b.chain) (began_by (known_of journal p).world (history (known_of journal p).world journal.log) e.call reply) false ≡ false)
@@ -217,7 +217,7 @@ module _ (journal journal' : Noted) (p p' : Pipeline) (cs : Chains) (ms : Marks)
         services = are;
       }
 
-  -- those of one service
+  -- the calls of one service
   pub whole_mounted : {X : Type 0} (mounts : Register) (good : X → Reply) (r : Result X CallFault) → is_serving e.call ≡ true → rpc_call e.call ≡ None → note_call e.call ≡ None → AreMounted (known_of journal' p') mounts → Calls (known_of journal p) (known_of journal' p') e good r → IsWhole journal' p' cs ms ls (record sv { mounts = mounts })
   whole_mounted mounts good r serves unrouted unnoted are calls =
       whole_served (record sv { mounts = mounts }) good r serves
@@ -402,7 +402,7 @@ module _ (journal journal' : Noted) (p : Pipeline) (cs : Chains) (ms : Marks) (l
       → Made known (known_of journal' p) (entry_of known client call) r
   made_over known r same room reply = subst (λ k. Made k (known_of journal' p) (entry_of k client call) r) same (made_now journal journal' p whole.kept client call log r room reply)
 
--- what a look for a mark is answered
+-- the answer to a look for a mark
 pub seen_now : (journal : Noted) (p : Pipeline) (cs : Chains) (ms : Marks) (ls : Listeners) (sv : Services) (client mark : ℕ) (b : Bool) → IsWhole journal p cs ms ls sv → is_key ms.map mark ≡ b → reply_to (known_of journal p).world (history (known_of journal p).world journal.log) client (After mark) ≡ (if b then Found else Late)
 seen_now journal p cs ms ls sv client mark b whole is =
     ap (λ x. if x then Found else Late) (marked (known_of journal p).world journal.log mark ∙ sym (whole.marked mark) ∙ is)

@@ -10,7 +10,7 @@ use Rattle.sal_history.specs.Submissions.{Sent, done, is_done}
 use Rattle.sal_history_laws.specs.Serial.{AreSerial, IsOfBegun, played}
 use Rattle.sal_hub.specs.Begins.{AreOfWriters}
 
--- the element from which a found one comes
+-- the element that gave the found one
 abbrev Comes : {X Y : Type 0} → (X → Option Y) → List X → Y → Type 0
 Comes {X} f xs y = (k : ℕ) × (x : X) × (slice_get xs k ≡ Some x) × (f x ≡ Some y)
 
@@ -30,7 +30,7 @@ sents_begun answered are i t at =
     let writer = are from.0 from.1 t from.2 from.3 in
     (writer.place, writer.began)
 
--- what holds of each submission holds of those that were done
+-- a property of all submissions is one of the done ones
 serial_here : (Holds : Sent → Type 0) (s : Sent) (rest : List Sent) (trees : Store → List Row) (own was_done : Bool) → Holds s → ((later : Store → List Row) → AreSerial Holds later rest → AreSerial (λ t. Unit {0}) later rest)
     → AreSerial Holds trees ((if own then (if was_done then s ∷ [] else []) else []) ++ rest) → AreSerial (λ t. Unit {0}) trees ((if own then (if was_done then s ∷ [] else []) else []) ++ rest)
 serial_here Holds s rest trees true true holds next is = (λ u. is.0 holds, next (played trees s) is.1)

@@ -38,7 +38,7 @@ Consumes-filled before middle now old new filled count same taken more =
 part_all : (xs : List ℕ) (at : ℕ) → take (length xs - at) (drop at xs) ≡ drop at xs
 part_all xs at = take_all _ (drop at xs) (omega (arith, length-drop at xs))
 
--- what a read of `count` bytes puts into the front of a buffer, and leaves; `given` is the source's bytes as they are lent
+-- the front of a buffer after a read of `count` bytes, and the bytes left; `given` is the source's bytes as they are lent
 pub read_front : (left bytes given buffer got : List ℕ) (at count : ℕ) → drop at bytes ≡ left → given ≡ bytes
     → got ≡ take count (take (length given - at) (drop at given)) → length got ≡ count
     → left ≡ take count (got ++ drop count buffer) ++ drop (at + count) bytes
@@ -47,31 +47,31 @@ read_front left bytes given buffer got at count is_left lent copied long =
     sym (ap (λ l. l ++ drop (at + count) bytes) (take_at got (drop count buffer) count long ∙ front) ∙ ap (λ l. take count (drop at bytes) ++ l) (sym (drop-drop count at bytes))
     ∙ take-append-drop count (drop at bytes) ∙ is_left)
 
--- a read of as much as there is, and fits, puts nothing into a buffer only where nothing is left
+-- a read of min(available, room) bytes puts nothing into a buffer only if nothing is left
 pub read_end : (bytes given buffer got : List ℕ) (at count : ℕ) → given ≡ bytes → count ≡ min (length (take (length given - at) (drop at given))) (length buffer)
     → length got ≡ count → count ≡ 0 → 0 < length (got ++ drop count buffer) → drop (at + count) bytes ≡ []
 read_end bytes given buffer got at count lent most long none some =
     drop_of_length-le bytes
     (omega (arith, most, ap length lent, ap length (part_all given at), length-drop at given, length-append got (drop count buffer), length-drop count buffer))
 
--- all that a source told was read, and it is within the limit
+-- all bytes that a source is known to have were read, and they are within the limit
 pub left-from_TakenBy : (left : List ℕ) (after : Option (List ℕ)) (limit : ℕ) (bytes : Vec ℕ Global) → TakenBy (Some left) after limit (Ok bytes) → (bytes.items ≡ left) × (length left ≤ limit)
 left-from_TakenBy left None limit bytes read = absurd read.0.taken
 left-from_TakenBy left (Some after) limit bytes read =
     let whole : left ≡ bytes.items = read.0.taken ∙ ap (λ l. bytes.items ++ l) read.0.ended ∙ append-nil bytes.items in
     (sym whole, subst (λ (l : List ℕ). length l ≤ limit) (sym whole) read.1)
 
--- the same, also for a source that may tell nothing
+-- the same, also for a source with unknown bytes
 pub told-from_TakenBy : (before after : Option (List ℕ)) (limit : ℕ) (bytes : Vec ℕ Global) → TakenBy before after limit (Ok bytes) → IfSome before (λ left. (bytes.items ≡ left) × (length left ≤ limit))
 told-from_TakenBy None after limit bytes read = tt
 told-from_TakenBy (Some left) after limit bytes read = left-from_TakenBy left after limit bytes read
 
--- a source that told its bytes had more than the limit
+-- a source with known bytes had more than the limit
 pub past-from_TakenBy : (left : List ℕ) (after : Option (List ℕ)) (limit : ℕ) → TakenBy (Some left) after limit (Err TooLong) → limit < length left
 past-from_TakenBy left None limit read = absurd read.taken
 past-from_TakenBy left (Some after) limit read = omega (arith, ap length read.taken, length-append read.bytes after, read.fit)
 
--- the same, also for a source that may tell nothing
+-- the same, also for a source with unknown bytes
 pub told_past-from_TakenBy : (before after : Option (List ℕ)) (limit : ℕ) → TakenBy before after limit (Err TooLong) → IfSome before (λ left. limit < length left)
 told_past-from_TakenBy None after limit read = tt
 told_past-from_TakenBy (Some left) after limit read = past-from_TakenBy left after limit read

@@ -45,7 +45,7 @@ bool-is (string s) b e = cc
 bool-is (array ds) b e = cc
 bool-is (object ms) b e = cc
 
--- a number that is held as z reads as the one that is written for z
+-- a number with the integer z reads as the text that is written for z
 pub whole-alike : (d : Data) (n : Num) (z : ℤ) → whole_of d ≡ Some z → as_integer n ≡ Some z → IsAlike (number n) d
 whole-alike null n z e h = cc
 whole-alike (boolean b) n z e h = cc
@@ -97,7 +97,7 @@ module _ (table : SchemaTable) (m : ℕ) where
   first-alike a b same [] k = refl
   first-alike a b same (member ∷ members) k = λ i. option_map_or (λ atom. Ok (value_of k atom)) (own-alike a b same member i) (first-alike a b same members (k + 1) i)
 
-  -- ---- what is written
+  -- ---- written values
 
   -- the JSON of a value of such a type is its text
   pub textual-json : (layer : YangType-F YangType) (atom : Atom) → is_textual layer ≡ true → is_of_layer table layer atom ≡ true → atom_json table m layer atom ≡ string (atom_text table m layer atom)

@@ -1,4 +1,4 @@
--- What is written for a decimal number reads as it.
+-- The text of a decimal number reads as the number.
 use Rattle.std.proofs.Common.{◌≡◌, ℕ, zero, suc, ◌+◌, ◌-◌, ◌*◌, ◌/◌, ◌%◌, ◌^◌, ◌<◌, ◌≤◌, ◌==◌, ℤ, pos, negsuc, Bool, true, false, not, if◌then◌else◌, List, [], ◌∷◌, ◌++◌, length, take, drop, fold, Result, Err, refl, ap, sym, subst, ◌∙◌, inl, inr, append_assoc, arith, decimal as digits_of}
 use Rattle.std.specs.Char.{is_ascii_digit}
 use Rattle.std.specs.List.{list_all, position_or_len}
@@ -108,7 +108,7 @@ all_digits a e = (and_parts (not (length a == 0)) (list_all is_ascii_digit a) e)
 some_digits : (a : List ℕ) → 0 < length a → list_all is_ascii_digit a ≡ true → is_digits a ≡ true
 some_digits a some all = let filled : not (length a == 0) ≡ true = grind (arith, nat_tests) in and_from _ _ filled all
 
--- a text that reads as so many units
+-- a text that reads as `n` units
 pub record IsUnits (digits n : ℕ) (t : List ℕ) : Type 0 where
   pub sign : without_sign t ≡ t
   pub plus : has_minus t ≡ false

@@ -1,4 +1,4 @@
--- What the grammar of `regex` reads.
+-- The texts that the grammar of `regex` reads.
 use Rattle.std.proofs.Common.{◌≡◌, ℕ, ◌<◌, ◌≤◌, ◌⊎◌, true, false, List, length, Option, Some, None, IsSomeAnd, IfSome, chars, refl, ap, ◌∙◌, sym, inl, inr}
 use Rattle.regex_syntax.specs.Verdict.{Reads, Refuses, default_config}
 use Rattle.regex_syntax.specs.Grammar.{Names, group_count, read}

@@ -65,7 +65,7 @@ module _ (b : List ℕ) where
   colon-there [] = refl
   colon-there (c ∷ a) = or_right _ _ (colon-there a)
 
--- ---- what is listed under its own name
+-- ---- elements listed under their own names
 
 module _ {X : Type 0} (f : ℕ → X → Named) where
   listed : (xs : List X) (i k : ℕ) (x : X) → slice_get xs k ≡ Some x → Contains (each_from (λ n y. f n y ∷ []) i xs) (f (i + k) x)

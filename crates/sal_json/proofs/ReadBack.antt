@@ -1,4 +1,4 @@
--- What is written for a value that was read reads as it.
+-- The text of a value that was read reads as the value.
 use Rattle.std.proofs.Common.{◌≡◌, ℕ, ◌+◌, ◌≤◌, ◌<◌, ◌==◌, true, not, ◌&&◌, nat_le, nat_lt, List, [], length, Option, Some, None, Result, Ok, Err, IsTrue, refl, ap, sym, subst, ◌∙◌, arith}
 use Rattle.std.specs.Option.{option_map_or}
 use Rattle.std.specs.List.{slice_get, list_all}

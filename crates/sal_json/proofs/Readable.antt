@@ -1,4 +1,4 @@
--- What is read is readable.
+-- A value that is read is readable.
 use Rattle.std.proofs.Common.{◌≡◌, ℕ, ◌+◌, ◌==◌, Bool, true, false, if◌then◌else◌, List, [], ◌∷◌, Some, None, Result, Ok, Err, refl, ap, sym, subst, ◌∙◌, inl, inr, arith}
 use Rattle.std.specs.Prelude.{nat_eq}
 use Rattle.std.specs.Option.{option_map_or}
@@ -61,7 +61,7 @@ module _ (table : SchemaTable) (m : ℕ) where
   textual-read (YangType-F.Union members) json wide = refl
   textual-read (YangType-F.Leafref path) json wide = refl
 
-  -- numbers, `true`, `false` and `[null]` read alike whatever their form
+  -- numbers, `true`, `false` and `[null]` read alike in any form
   number-alike : (bits : ℕ) (sign : Bool) (range : List Part) (json : Data) (atom : Atom) → (bits == 64) ≡ false → json_atom table m (YangType-F.Int bits sign range) json ≡ Ok atom
       → IsAlike (written (YangType-F.Int bits sign range) atom) json
   number-alike bits sign range json atom small e =

@@ -1,4 +1,4 @@
--- What is written for a whole number reads as it.
+-- The text of a whole number reads as the number.
 use Rattle.std.proofs.Common.{◌≡◌, ℕ, suc, ◌+◌, ◌-◌, ◌*◌, ◌^◌, ◌<◌, ◌≤◌, ◌==◌, nat_lt, ℤ, pos, negsuc, Bool, true, false, not, ◌&&◌, List, [], ◌∷◌, length, fold, Ok, refl, ap, ◌∙◌, inl, inr, rules, arith, decimal as digits_of}
 use Rattle.std.specs.Fmt.{signed_decimal}
 use Rattle.std.specs.Char.{is_ascii_digit}

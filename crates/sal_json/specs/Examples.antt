@@ -1,4 +1,4 @@
--- A schema and words for the examples.
+-- A schema and names for the examples.
 use Rattle.std.specs.Prelude.{ℕ, ℤ, pos, negsuc, int_le, Bool, true, false, List, [], ◌∷◌, ◌++◌, Result, Ok, codes}
 use Prim.Native.String.{String}
 use Rattle.serde_json.specs.Data.{Data, string}

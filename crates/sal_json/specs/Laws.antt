@@ -1,4 +1,4 @@
--- What holds of each value that is read.
+-- Laws of each value that is read.
 use Rattle.std.specs.Prelude.{◌≡◌, ℕ, Bool, true, false, List, Some, Ok}
 use Rattle.std.specs.List.{slice_get}
 use Rattle.std.specs.Option.{option_map_or}

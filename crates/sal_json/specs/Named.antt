@@ -22,7 +22,7 @@ text_eq = pointwise nat_eq
 abbrev pub number_called : List (List ℕ) → List ℕ → List ℕ → Option ℕ
 number_called names numbers t = option_and_then (slice_get numbers) (position (text_eq t) names)
 
--- the name at a place
+-- the name at an index
 abbrev pub name_there : List (List ℕ) → Option ℕ → List ℕ
 name_there names at = option_map_or (λ i. slice_index_or names i []) at []
 
@@ -52,7 +52,7 @@ abbrev pub then_name : List (List ℕ) → List ℕ → Result ℕ ScalarFault �
 then_name names positions (Ok set) name = with_name names positions set name
 then_name names positions (Err fault) name = Err fault
 
--- names, one space between any two, in any order and none twice; the first from the left that is wrong counts
+-- names, one space between any two, in any order and none twice; the first fault from the left is returned
 unfoldable pub bits_of : List (List ℕ) → List ℕ → List ℕ → Result ℕ ScalarFault
 bits_of names positions t = if length t == 0 then Ok 0 else fold (then_name names positions) (Ok 0) (slice_split is_space t)
 
@@ -84,6 +84,6 @@ derived_atom table bases i = if takes_identity table bases i then Ok (Ident i) e
 abbrev pub identity_atom : SchemaTable → ℕ → List ℕ → List ℕ → Result Atom ScalarFault
 identity_atom table m bases t = option_map_or (derived_atom table bases) (identity_called table m t) (Err UnknownName)
 
--- the name of an identity, with its module where that is another than `m`
+-- the name of an identity, with its module if that is not `m`
 abbrev pub identity_text : SchemaTable → ℕ → ℕ → List ℕ
 identity_text table m i = option_map_or (λ own. if own == m then identity_name table i else module_name table own ++ 58 ∷ identity_name table i) (identity_module table i) []

@@ -31,7 +31,7 @@ without_minus t = if has_minus t then drop 1 t else t
 abbrev pub is_in_64 : ℤ → Bool
 is_in_64 z = int_le (negsuc 9223372036854775807) z && int_le z (pos 9223372036854775807)
 
--- the value that a whole number is in an integer type
+-- the value of a whole number in an integer type
 abbrev pub whole_atom : Bool → List Part → ℤ → Result Atom ScalarFault
 whole_atom true range z = if is_in_64 z && holds range z then Ok (Signed z) else Err OutOfRange
 whole_atom false range (pos n) = if nat_lt n 18446744073709551616 && holds range (pos n) then Ok (Unsigned n) else Err OutOfRange
@@ -51,7 +51,7 @@ begins_with_zero t = slice_index t 0 == 48
 abbrev pub is_strict : List ℕ → Bool
 is_strict t = (length t == 1 && begins_with_zero t) || (is_digits (without_minus t) && not (begins_with_zero (without_minus t)))
 
--- types of 64 bits take any sign and any zeros in front, the others only the one spelling of a number
+-- types of 64 bits take any sign and any leading zeros, the others only the one spelling of a number
 abbrev pub is_number : ℕ → List ℕ → Bool
 is_number bits t = if bits == 64 then is_whole t else is_strict t
 
@@ -78,7 +78,7 @@ further_digits t = after_first is_point t
 abbrev pub is_decimal : List ℕ → Bool
 is_decimal t = is_digits (whole_digits t) && (not (has_point t) || is_digits (further_digits t))
 
--- the first so many digits, and the rest
+-- the first `digits` digits, and the rest
 abbrev pub first_of : ℕ → List ℕ → List ℕ
 first_of digits t = take digits t
 
@@ -105,7 +105,7 @@ dec_atom digits range t =
 
 -- ---- written
 
--- the digits of a number with a point before the last so many
+-- the digits of a number with a point before the last `digits`
 abbrev pub with_point : ℕ → ℕ → List ℕ
 with_point zero n = digits_of n ++ 46 ∷ []
 with_point (suc digits) n = with_point digits (n / 10) ++ (48 + n % 10) ∷ []

@@ -18,7 +18,7 @@ use Rattle.sal_json.specs.declared.fault.PatternsFault.TheVariants.{Refused, NoM
 abbrev pub Text : Type 0
 Text = List ℕ
 
--- what the grammar reads is found in the text
+-- the pattern that the grammar accepts is found in the text
 abbrev pub is_found : Option (Nested Re × Names) → Text → Bool
 is_found None t = false
 is_found (Some found) t = is_some (find_str found.0.value t 0)
@@ -35,7 +35,7 @@ matches p t = finds (whole_text p) t
 abbrev pub passes : Text → Pattern → Bool
 passes t pattern = if pattern.inverted then not (matches pattern.text t) else matches pattern.text t
 
--- the grammar reads nothing, or what it reads is nested too deeply
+-- the grammar accepts nothing, or a pattern that is nested too deeply
 abbrev pub is_refused : Option (Nested Re × Names) → Bool
 is_refused None = true
 is_refused (Some found) = nat_lt default_config.nest_limit found.0.depth

@@ -36,7 +36,7 @@ bool_atom t = if text_eq t (codes "true") then Ok (BoolAtom true) else if text_e
 abbrev pub bytes_atom : List Part → List ℕ → Result Atom ScalarFault
 bytes_atom lengths bytes = if holds lengths (pos (length bytes)) then Ok (Bin bytes) else Err BadLength
 
--- what the bytes of a base64 text are, where it has this form
+-- the bytes of a base64 text, if it has this form
 abbrev pub bytes_of : List ℕ → Option (List ℕ)
 bytes_of t = decoded_of standard t
 
@@ -65,7 +65,7 @@ text_atom table m layer t = Err WrongKind
 abbrev pub of_string : (List ℕ → Result Atom ScalarFault) → Data → Result Atom ScalarFault
 of_string read json = option_map_or read (as_str json) (Err WrongKind)
 
--- a number that is held as a whole one
+-- a number that is a whole one
 abbrev pub whole_of : Data → Option ℤ
 whole_of json = option_and_then as_integer (as_number json)
 
@@ -95,7 +95,7 @@ json_atom table m layer json = of_string (text_atom table m layer) json
 
 -- ---- unions
 
--- what was read, if it is in the form in which it is written
+-- the value, if the input is in the form in which that value is written
 abbrev pub if_own : (Atom → Bool) → Result Atom ScalarFault → Option Atom
 if_own is_own (Ok atom) = if is_own atom then Some atom else None
 if_own is_own (Err fault) = None

@@ -58,7 +58,7 @@ atom_json table m layer atom = string (atom_text table m layer atom)
 
 -- ---- of any type
 
--- the type that a value is of: that of its member, or the type itself
+-- the type of a value: that of its member, or the type itself
 abbrev pub layer_for : YangType-F YangType → ℕ → Option (YangType-F YangType)
 layer_for (YangType-F.Union members) k = option_map_or (λ member. Some (out-YangType member)) (slice_get members k) None
 layer_for layer k = Some layer

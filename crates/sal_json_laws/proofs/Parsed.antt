@@ -23,7 +23,7 @@ abbrev mutual
   HasOfBytes no_members = ⊤
   HasOfBytes (member k j ms) = IsOfBytes j × HasOfBytes ms
 
--- what was parsed, and the tokens behind it
+-- the parsed value, and the tokens after it
 abbrev pub Gives : {A : Type 0} → (A → Type 0) → Option (A × List Token) → Type 0
 Gives P None = ⊤
 Gives P (Some p) = P p.0 × HaveTexts p.1

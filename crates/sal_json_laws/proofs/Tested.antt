@@ -1,4 +1,4 @@
--- The test of a JSON value says what it is to say.
+-- The test of a JSON value is correct.
 use Rattle.std.proofs.Common.{◌≡◌, ℕ, ◌&&◌, true, List, [], ◌∷◌, Option, Some, None, is_none, nat_lt, ltb-true, lt-ltb, refl, ap}
 use Rattle.std.proofs.lemmas.Bool.{and_parts, and_from}
 use Rattle.serde_json.specs.Data.{Data, null, boolean, number, string, array, object, Items, no_items, item, Members, no_members, member}

@@ -8,7 +8,7 @@ use Rattle.serde_json.specs.Find.{as_str, get_member}
 abbrev pub HasBytes : Data → Type 0
 HasBytes json = (t : List ℕ) → as_str json ≡ Some t → IsBytes t
 
--- each name stands once in its object, and strings are bytes
+-- each name occurs once in its object, and strings are bytes
 abbrev mutual
   pub IsJson : Data → Type 0
   IsJson null = ⊤

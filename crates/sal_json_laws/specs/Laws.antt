@@ -1,4 +1,4 @@
--- What is read from a text is JSON, and so are its parts.
+-- A value that is read from a text is JSON, and so are its members and elements.
 use Rattle.std.specs.Prelude.{◌≡◌, ◌↔◌, ℕ, List, Some, IsUtf8, IsTrue}
 use Rattle.base64.specs.GeneralPurpose.{IsBytes}
 use Rattle.serde_json.specs.Data.{Data}
@@ -14,7 +14,7 @@ ReadsAsJson = (text : List ℕ) → IsBytes text → (json : Data) → read text
 abbrev pub TextsAreBytes : Type 0
 TextsAreBytes = (text : List ℕ) → IsUtf8 text → IsBytes text
 
--- So what is read from UTF-8 is JSON.
+-- So a value that is read from UTF-8 is JSON.
 abbrev pub TextsReadAsJson : Type 0
 TextsReadAsJson = (text : List ℕ) → IsUtf8 text → (json : Data) → read text ≡ Some json → IsJson json
 

@@ -1,4 +1,4 @@
--- What kept commits say of two neighbours, and what their trees say of a part.
+-- Two neighbours of kept commits, and a part of their trees.
 use Rattle.std.proofs.Common.{◌≡◌, ℕ, ◌+◌, Bool, true, false, List, [], ◌∷◌, ◌++◌, Option, Some, None, refl, ap, sym, ◌∙◌, subst, append-nil}
 use Rattle.std.proofs.Math.Facts.{yes_eqb}
 use Rattle.std.specs.Prelude.{T, ◌==◌}

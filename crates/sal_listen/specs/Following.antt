@@ -1,4 +1,4 @@
--- What a listener is given, one batch after another. `trees` are the trees of its store at the commits, by their numbers.
+-- The batches of a listener, one after another. `trees` are the trees of its store at the commits, by their numbers.
 use Rattle.std.specs.Prelude.{◌≡◌, ℕ, ◌≤◌, Bool, List, [], ◌∷◌, flat_map}
 use Rattle.std.specs.List.{fold}
 use Rattle.sal_types.specs.declared.value.Step.{Step}
@@ -8,7 +8,7 @@ use Rattle.sal_rows.specs.declared.batch.Part.{Part}
 use Rattle.sal_rows.specs.Batches.{batch}
 use Rattle.sal_rows.specs.Patch.{with_parts}
 
--- batches of which the first begins at commit k, and each other one where the one before it ends
+-- batches: the first begins at commit k, and each later one at the end of the one before
 abbrev pub AreBatches : Bool → (ℕ → List Row) → List Step → ℕ → List Batch → Type 0
 AreBatches own trees p k [] = Unit {0}
 AreBatches own trees p k (b ∷ bs) = (k ≤ b.to) × (b ≡ batch own trees p k b.to) × AreBatches own trees p b.to bs
@@ -22,6 +22,6 @@ end_of k (b ∷ bs) = end_of b.to bs
 abbrev pub parts_in : List Batch → List Part
 parts_in bs = flat_map (λ b. b.lists) bs
 
--- rows after the batches, one after another
+-- rows after the batches, in their order
 abbrev pub with_batches : List Row → List Batch → List Row
 with_batches rows bs = fold (λ rows b. with_parts rows b.lists) rows bs

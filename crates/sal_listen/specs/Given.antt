@@ -1,4 +1,4 @@
--- What a listener is given, by the commits that a domain keeps.
+-- The batches of a listener, from the commits that a domain keeps.
 use Rattle.std.specs.Prelude.{ℕ, Bool, List, [], ◌∷◌}
 use Rattle.sal_types.specs.declared.value.Store.{Store}
 use Rattle.sal_types.specs.declared.value.Step.{Step}
@@ -15,7 +15,7 @@ use Rattle.sal_graft.specs.Kept.{opening_in, ops_of}
 abbrev pub trees_of : List Commit → Store → ℕ → List Row
 trees_of commits s = tree_at (opening_in commits) (ops_of commits) s
 
--- what commit k changed, by the trees before and after it, even if that is nothing
+-- the changes of commit k, from the trees before and after it, even if there are none
 abbrev pub any_part : Bool → List Row → List Row → List Step → ℕ → Part
 any_part own before after p k = record { commit = k; kind = candidate_kind own before after p; list = changes_under before after p }
 

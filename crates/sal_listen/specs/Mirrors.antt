@@ -9,14 +9,14 @@ use Rattle.sal_rows.specs.declared.batch.Part.{Part}
 use Rattle.sal_rows.specs.declared.rows.patch.Patch.{Patch}
 use Rattle.sal_rows.specs.Batches.{HasChangesOf}
 
--- what a change sets, and what the parts of a batch set
+-- the patch of a change, and the patches of the parts of a batch
 abbrev pub patch_by : Change → Patch
 patch_by c = record { path = c.path; cell = c.after }
 
 abbrev pub patches_in : List Part → List Patch
 patches_in ps = flat_map (λ p. map patch_by p.list) ps
 
--- For every list of committed trees and every path: where the batch has their changes under the path, and the rows before are
--- those under the path at the commit at which it begins, the rows after are those at the commit at which it ends.
+-- For every list of committed trees and every path: if the batch has their changes under the path, and the rows before are those under the
+-- path at the commit at which it begins, the rows after are those at the commit at which it ends.
 abbrev pub CarriesOn : Batch → List Row → List Row → Type 0
 CarriesOn b before after = (trees : ℕ → List Row) (p : List Step) → ((k : ℕ) → IsAscending (trees k)) → HasChangesOf trees p b → before ≡ under (trees b.from) p → after ≡ under (trees b.to) p

@@ -41,7 +41,7 @@ first-more t s (o ∷ ops) op p = elim (stands_at t s p o) as (λ b. (if b then 
     shifted None false = refl
     shifted (Some n) b = refl
 
--- an operation that passes the test is noted
+-- an operation that passes the test is recorded
 pub noted-more : (t : Act → Bool) (ops : List Op) (op : Op) (n : ℕ) (old new : Firsts) → t op.act ≡ true → n ≡ length ops → AreFirstBy t ops old
     → ((s : Store) (p : List Step) → find path_cmp p (places_in new s) ≡ noted s op n p (find path_cmp p (places_in old s))) → AreFirstBy t (ops ++ op ∷ []) new
 noted-more t ops op n old new passes l h g s p =
@@ -49,7 +49,7 @@ noted-more t ops op n old new passes l h g s p =
     ∙ ap (λ b. option_or (first_at t s ops p) (if b then Some (length ops) else None)) (sym (and_true (same_store op.store s) (t op.act) (path_eq p op.path) passes))
     ∙ sym (first-more t s ops op p)
 
--- and for another one nothing is noted
+-- and any other one is not
 pub skipped-more : (t : Act → Bool) (ops : List Op) (op : Op) (places : Firsts) → t op.act ≡ false → AreFirstBy t ops places → AreFirstBy t (ops ++ op ∷ []) places
 skipped-more t ops op places fails h s p =
     h s p ∙ sym (or_none (first_at t s ops p))
@@ -66,7 +66,7 @@ no_read Read h = cc
 find_same : (p w : List Step) (es : List (List Step × ℕ)) → path_eq p w ≡ true → find path_cmp p es ≡ find path_cmp w es
 find_same p w es e = ap (λ q. find path_cmp q es) (same_path p w e)
 
--- a place that is noted already stays
+-- a place that is recorded stays
 pub noted-there : (w : List Step) (n m : ℕ) (es : List (List Step × ℕ)) (p : List Step) → find path_cmp w es ≡ Some m → find path_cmp p es ≡ noted_at w n p (find path_cmp p es)
 noted-there w n m es p e = elim (path_eq p w) as (λ b. path_eq p w ≡ b → find path_cmp p es ≡ option_or (find path_cmp p es) (if b then Some n else None)) [
   | true ↦ λ b. let is = find_same p w es b ∙ e in is ∙ sym (ap (λ o. option_or o (Some n)) is)

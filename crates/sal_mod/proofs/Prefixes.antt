@@ -1,4 +1,4 @@
--- Tests on the paths that a path begins with, and the operations that stand over it.
+-- Tests on the prefixes of a path, and the operations at prefixes of it.
 use Rattle.std.proofs.Common.{◌≡◌, ℕ, suc, zero, ◌+◌, ◌<◌, ◌≤◌, Bool, true, false, List, [], ◌∷◌, ◌++◌, ◌&&◌, ◌||◌, length, take, drop, Option, Some, None, refl, ap, ◌∙◌, if◌then◌else◌, arith}
 use Rattle.std.proofs.lemmas.Bool.Decides.{nat_tests}
 use lib.Dec.{ltb}
@@ -57,7 +57,7 @@ eq_swap x y = ap is_eq (step_cmp-IsTotalOrder.antisymm x y) ∙ turned (step_cmp
     turned Equal = refl
     turned Greater = refl
 
--- a path is a prefix where it is one of the paths that the other one begins with
+-- a path is a prefix exactly if it is one of the other path's prefixes
 any-equal : (w p : List Step) → any_prefix (λ q. path_eq q w) p ≡ is_prefix w p
 any-equal [] [] = refl
 any-equal [] (x ∷ p) = refl

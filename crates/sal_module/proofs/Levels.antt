@@ -1,4 +1,4 @@
--- How the statements of one keyword stand, and which keywords a rule has, from one to the next.
+-- The positions of the statements of one keyword, and the keywords of a rule, from one to the next.
 use Rattle.std.proofs.Common.{◌≡◌, ℕ, zero, suc, ◌-◌, ◌==◌, Bool, true, false, ◌||◌, List, [], ◌∷◌, ◌++◌, if◌then◌else◌, refl, ◌∙◌, inl, inr, arith}
 use Rattle.std.proofs.lemmas.Bool.{cases_Bool}
 use Rattle.std.specs.List.{list_any, flat_map}
@@ -25,7 +25,7 @@ any-parts p now (part ∷ parts) = any-append p (now part) (flat_map now parts) 
 
 -- ---- one level after another
 
--- the faults in so many levels from a substatement on
+-- the faults in this many levels from a substatement on
 abbrev pub below : ℕ → ℕ → Stmt → Stmt → List Found
 below m levels parent sub = if is_judged parent sub then tree_faults m levels sub else []
 

@@ -22,7 +22,7 @@ use Rattle.sal_module.specs.Keywords.{same}
 use Rattle.sal_module.specs.Profile.{at_stmt}
 use Rattle.sal_module.specs.Imports.{Named, named_import, named_prefixes, find_named, prefix_of, prefix_faults}
 
--- what the names give, or one more name behind them
+-- the result for the names, or for one more name after them
 find_named-last : (names : List Named) (n : Named) (q : List ℕ)
     → find_named (names ++ n ∷ []) q ≡ (if is_some (find_named names q) then find_named names q else if same q n.0 then Some n.1 else None)
 find_named-last [] n q = elim (cases_Bool (same q n.0)) [ inl e ↦ rw e refl | inr e ↦ rw e refl ]
@@ -78,7 +78,7 @@ pub names-prefixes : (stmts : List Stmt) (imports : List Stmt) → map (λ (n : 
 names-prefixes stmts [] = refl
 names-prefixes stmts (one ∷ imports) = ap (λ rest. prefix_of one ∷ rest) (names-prefixes stmts imports)
 
--- a prefix is known where it is that of the module or of an import
+-- a prefix is known exactly if it is that of the module or of an import
 pub named_prefixes-any : (stmts : List Stmt) (m : ℕ) (stmt : Stmt) (imports : List Stmt) (q : List ℕ)
     → is_some (find_named (named_prefixes stmts m stmt imports) q) ≡ list_any (same q) ((prefix_of stmt ∷ []) ++ map prefix_of imports)
 named_prefixes-any stmts m stmt imports q =

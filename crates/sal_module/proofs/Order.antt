@@ -1,4 +1,4 @@
--- Statements in the order of the text: where one at a place can stand.
+-- Statements in the order of the text: where a statement with a given offset can be.
 use Rattle.std.proofs.Common.{◌≡◌, ℕ, zero, suc, ◌+◌, ◌-◌, ◌<◌, ◌≤◌, Bool, true, false, ◌&&◌, ◌/◌, ◌==◌, nat_lt, nat_le, List, [], ◌∷◌, ◌++◌, length, take, drop, get_or, Option, Some, None, is_some, if◌then◌else◌, refl, sym, ap, ◌∙◌, inl, inr, arith, length-drop}
 use Rattle.std.proofs.lemmas.Bool.{cases_Bool}
 use Rattle.std.proofs.lemmas.Bool.Decides.{nat_tests}
@@ -42,7 +42,7 @@ pub is_in_order-more : (levels high : ℕ) (stmt : Stmt) → 0 < levels → is_i
 is_in_order-more zero high stmt h = absurd (omega arith)
 is_in_order-more (suc levels) high stmt h = let less : suc levels - 1 ≡ levels = omega arith in rw less (is_in_order-suc levels high stmt)
 
--- ---- what is in order stands before its end
+-- ---- ordered statements are before their end
 
 module _ (test : ℕ → Stmt → Bool) (within : (high : ℕ) (stmt : Stmt) → test high stmt ≡ true → (out-Stmt stmt).at < high) where
   start-within : (high : ℕ) (stmts : List Stmt) → all_before test high stmts ≡ true → start_or high stmts ≤ high

@@ -19,11 +19,11 @@ decimal t = fold (λ n c. 10 * n + (c - 48)) 0 t
 abbrev pub is_count : List ℕ → Bool
 is_count t = is_whole t && nat_lt (decimal t) (2 ^ 32)
 
--- a positive one, or the word `unbounded`
+-- a positive one, or `unbounded`
 abbrev pub is_limit : List ℕ → Bool
 is_limit t = same t (codes "unbounded") || (is_count t && nat_lt 0 (decimal t))
 
--- a whole number of 32 bits with a sign: `-0` is one, and no `+` stands before it (integer-value)
+-- a whole number of 32 bits with a sign: `-0` is one, and a leading `+` is not allowed (integer-value)
 abbrev pub is_integer : List ℕ → Bool
 is_integer t =
     if first t == 45 then is_whole (drop 1 t) && nat_le (decimal (drop 1 t)) (2 ^ 31)
@@ -47,7 +47,7 @@ has_form Count t = is_count t
 has_form Limit t = is_limit t
 has_form Integer t = is_integer t
 
--- an argument that is missing, unwanted or not of its form
+-- an argument that is missing, not allowed or of the wrong form
 abbrev pub is_bad_argument : Form → Option (List ℕ) → Bool
 is_bad_argument Absent None = false
 is_bad_argument form None = true

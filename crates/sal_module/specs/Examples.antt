@@ -1,4 +1,4 @@
--- Words for the examples.
+-- Names for the examples.
 use Rattle.std.specs.Prelude.{ℕ, Option, Some}
 use Prim.Native.String.{String}
 use Rattle.sal_module.specs.declared.fault.Cause.{Cause}

@@ -1,4 +1,4 @@
--- The faults of a pass, and which of them counts.
+-- The faults of a pass, and which of them is returned.
 use Rattle.std.specs.Prelude.{ℕ, Bool, ◌&&◌, ◌||◌, ◌==◌, nat_lt, List, fold, Option, Some, None, if◌then◌else◌}
 use Rattle.sal_module.specs.declared.fault.BuildFault.{BuildFault}
 use Rattle.sal_module.specs.declared.fault.BuildFault.TheVariants as variant
@@ -7,7 +7,7 @@ use Rattle.sal_module.specs.declared.fault.Cause.TheVariants.{UnknownStatement, 
 use Rattle.sal_module.specs.declared.fault.Found.{Found}
 use Rattle.sal_module.specs.Keywords.{word_of}
 
--- the number by which faults of one statement are ordered
+-- the number that orders faults of one statement
 abbrev pub number_of : Cause → ℕ
 number_of UnknownStatement = 1
 number_of LeftOut = 2
@@ -26,7 +26,7 @@ number_of ConfigUnderState = 14
 number_of BadTarget = 15
 number_of OldIdentity = 16
 
--- the smaller module first, then the smaller place, and at one place the smaller number
+-- the smaller module first, then the smaller offset, and at one offset the smaller number
 abbrev pub is_before : Found → Found → Bool
 is_before a b =
     nat_lt a.module b.module || (a.module == b.module && (nat_lt a.at b.at || (a.at == b.at && nat_lt (number_of a.cause) (number_of b.cause))))
@@ -35,11 +35,11 @@ abbrev pub better : Option Found → Found → Option Found
 better None found = Some found
 better (Some best) found = if is_before found best then Some found else Some best
 
--- the least of these faults and one that was found before: of equals the first
+-- the least of these faults and one found earlier: of equals the first
 abbrev pub least : Option Found → List Found → Option Found
 least best found = fold better best found
 
--- the fault as callers get it
+-- the fault as `BuildFault`
 abbrev pub fault : ℕ → ℕ → Cause → BuildFault
 fault m at UnknownStatement = variant.UnknownStatement m at
 fault m at LeftOut = variant.LeftOut m at

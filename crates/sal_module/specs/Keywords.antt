@@ -1,4 +1,4 @@
--- The keywords of the profile and their words.
+-- The keywords of the profile and their spellings.
 use Rattle.std.specs.Prelude.{ℕ, Bool, nat_eq, List, [], map, find, filter, Option, option_map, unwrap_or}
 use Rattle.std.specs.Borrow.{Bor}
 use lib.Pointwise.{pointwise}
@@ -14,7 +14,7 @@ same a b = pointwise nat_eq a b
 abbrev pub same_keyword : Keyword → Keyword → Bool
 same_keyword = (keyword_partial_eq.ghosts).eq
 
--- a word and its keyword
+-- a spelling and its keyword
 abbrev pub Word : Type 0
 Word = List ℕ × Keyword
 
@@ -30,14 +30,14 @@ word_among words keyword = unwrap_or (option_map (λ (w : Word). w.0) (find (λ 
 unfoldable pub words : List Word
 words = map (λ w. (w.0.now, w.1)) WORDS
 
--- those that begin with this byte
+-- the spellings that begin with this byte
 abbrev pub with_first : ℕ → List Word → List Word
 with_first c some = filter (λ (w : Word). nat_eq (first w.0) c) some
 
 abbrev pub words_with : ℕ → List Word
 words_with c = with_first c words
 
--- the keyword of a word: none for a word with a prefix, and for one that the profile does not have
+-- the keyword with this spelling: none for a text with a prefix, and for a keyword that the profile does not have
 unfoldable pub keyword_of : List ℕ → Option Keyword
 unfolding words
 keyword_of text = keyword_among words text

@@ -1,4 +1,4 @@
--- What the profile leaves out by an argument, or by a statement that is not there.
+-- What the profile does not support because of an argument, or of a missing statement.
 use Rattle.std.specs.Prelude.{ℕ, ◌+◌, Bool, false, not, ◌&&◌, ◌||◌, ◌==◌, nat_eq, nat_lt, max, List, [], ◌∷◌, ◌++◌, drop, find, Option, Some, None, option_map, if◌then◌else◌, codes}
 use Rattle.std.specs.List.{list_any, prefix_len, starts_with}
 use Rattle.sal_stmt.specs.declared.stmt.Stmt.{Stmt, out-Stmt}
@@ -10,11 +10,11 @@ use Rattle.sal_module.specs.Keywords.{same}
 use Rattle.sal_module.specs.Arguments.{is_whole, decimal}
 use Rattle.sal_module.specs.Statements.{is_named, subs_of, argument_of}
 
--- `deref`, and an opening parenthesis behind it
+-- `deref`, and an opening parenthesis after it
 abbrev pub starts_call : List ℕ → Bool
 starts_call t = starts_with nat_eq t (codes "deref") && first (drop (prefix_len is_blank (drop 5 t)) (drop 5 t)) == 40
 
--- The function `deref` is called somewhere in a path, of which this byte stands before. It is no part of a longer name.
+-- The path calls the function `deref`; `before` is the byte before this text. The name is not part of a longer one.
 unfoldable pub calls_deref_after : ℕ → List ℕ → Bool
 calls_deref_after before [] = false
 calls_deref_after before (c ∷ t) = (not (continues_identifier before) && starts_call (c ∷ t)) || calls_deref_after c t
@@ -36,7 +36,7 @@ is_instance_identifier stmt = is_named word.Type stmt && same (argument_of stmt)
 abbrev pub is_calling_path : Stmt → Bool
 is_calling_path stmt = is_named word.Path stmt && calls_deref (argument_of stmt)
 
--- a stated position that no number of 64 bits has
+-- a stated position above 63
 abbrev pub is_past_the_last_bit : Stmt → Bool
 is_past_the_last_bit stmt = is_named word.Position stmt && (is_whole (argument_of stmt) && nat_lt 63 (decimal (argument_of stmt)))
 
@@ -57,7 +57,7 @@ next_position next (Some position) = max next (position + 1)
 abbrev pub implied_faults : ℕ → ℕ → Stmt → List Found
 implied_faults m next bit = if not (list_any (is_named word.Position) (subs_of bit)) && nat_lt 63 next then record { cause = LeftOut; «module» = m; at = (out-Stmt bit).at } ∷ [] else []
 
--- bits whose implied position is past 63
+-- bits whose implied position is above 63
 unfoldable pub bit_faults : ℕ → ℕ → List Stmt → List Found
 bit_faults m next [] = []
 bit_faults m next (sub ∷ subs) =

@@ -12,11 +12,11 @@ is_named keyword stmt = same (out-Stmt stmt).keyword (word_of keyword)
 abbrev pub subs_of : Stmt → List Stmt
 subs_of stmt = (out-Stmt stmt).subs
 
--- those of one keyword
+-- the statements of its block with this keyword
 abbrev pub all_named : Keyword → Stmt → List Stmt
 all_named keyword stmt = filter (is_named keyword) (subs_of stmt)
 
--- its argument, or the empty text where it has none
+-- its argument, or the empty text if it has none
 abbrev pub argument_of : Stmt → List ℕ
 argument_of stmt = unwrap_or (out-Stmt stmt).arg []
 

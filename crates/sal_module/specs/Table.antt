@@ -1,4 +1,4 @@
--- The table of the profile, read from the code's constant.
+-- The table of the profile, taken from the code's constant.
 use Rattle.std.specs.Prelude.{ℕ, List, [], map, find, Option, option_map, option_and_then, unwrap_or}
 use Rattle.std.specs.List.{flat_map}
 use Rattle.std.specs.Borrow.{Bor}
@@ -9,7 +9,7 @@ use Rattle.sal_module.specs.declared.table.Often.{Often}
 use Rattle.sal_module.specs.declared.table.TheConstants.{TABLE}
 use Rattle.sal_module.specs.Keywords.{same_keyword, keyword_of}
 
--- a keyword and how often its statement may stand
+-- a keyword and how often its statement may occur
 abbrev pub Entry : Type 0
 Entry = Keyword × Often
 
@@ -37,6 +37,6 @@ rule_at keyword = rule_among rows keyword
 abbrev pub text_rule : Rule
 text_rule = record { argument = Text; entries = [] }
 
--- the rule of a statement, by its word
+-- the rule of a statement, by the spelling of its keyword
 unfoldable pub rule_of : List ℕ → Rule
 rule_of word = unwrap_or (option_and_then rule_at (keyword_of word)) text_rule

@@ -1,4 +1,4 @@
--- What nodes have from above, from one node to the next.
+-- The values that nodes inherit, from one node to the next.
 use Rattle.std.proofs.Common.{◌≡◌, ℕ, zero, suc, ◌+◌, ◌<◌, nat_lt, List, [], ◌∷◌, ◌++◌, length, get_or, Option, Some, None, refl, sym, ap, ◌∙◌, inl, inr, arith}
 use Rattle.std.proofs.lemmas.Bool.{cases_Bool}
 use Rattle.std.proofs.lemmas.Bool.Decides.{nat_tests}
@@ -26,7 +26,7 @@ module _ {A : Type 0} (f : Branch → ℕ → A → A) (top : A) (forest : List 
   same-step None at other k agree = refl
   same-step (Some b) at other k agree = ap (f b k) (same-above at other k b.parent agree)
 
-  -- so many steps are enough
+  -- more steps than the number of the node are enough
   pub enough : (n m k : ℕ) → k < n → k < m → inherited f top n forest k ≡ inherited f top m forest k
   enough zero m k h g = absurd (omega arith)
   enough (suc n) zero k h g = absurd (omega arith)

@@ -1,4 +1,4 @@
--- The types of nodes, in an order in which targets stand before what takes their types.
+-- The types of nodes, in an order in which a target is before the nodes that take its type.
 use Rattle.std.proofs.Common.{◌≡◌, ◌≢◌, ℕ, zero, suc, ◌+◌, ◌-◌, ◌<◌, ◌==◌, List, [], ◌∷◌, map, length, get_or, Bool, true, refl, sym, ap, ◌∙◌, inl, inr, arith, get_or-set_other, get_or-set_same}
 use Rattle.std.proofs.Math.ListN.{set}
 use Rattle.std.specs.Prelude.{if◌then◌else◌}

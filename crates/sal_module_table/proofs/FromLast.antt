@@ -3,7 +3,7 @@ use Rattle.std.proofs.Common.{◌≡◌, ℕ, ◌+◌, ◌-◌, ◌≤◌, ◌<�
 use Rattle.std.specs.List.{position_from}
 use Rattle.std.proofs.lemmas.List.{drop_more}
 
--- the first of the last so many
+-- the first of the last `n` elements
 abbrev pub first_of_last : {X : Type 0} → (X → Bool) → List X → ℕ → Option ℕ
 first_of_last p xs done = position_from p (length xs - done) (drop (length xs - done) xs)
 

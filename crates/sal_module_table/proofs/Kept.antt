@@ -1,4 +1,4 @@
--- What is kept of wanted statements, from one level to the next, and what a node finds of it.
+-- The kept places of required statements, from one level to the next, and what a node finds there.
 use Rattle.std.proofs.Common.{◌≡◌, ℕ, zero, suc, ◌+◌, ◌-◌, ◌<◌, List, [], ◌∷◌, ◌++◌, length, map, take, get_or, Bool, true, false, ◌&&◌, ◌==◌, Option, Some, None, is_some, option_map, if◌then◌else◌, refl, ◌∙◌, sym, ap, inl, inr, arith, append-nil, append_assoc}
 use Rattle.std.specs.Prelude.{find, option_and_then}
 use Rattle.std.specs.List.{flat_map, enumerate_from, position_from, slice_get}
@@ -144,7 +144,7 @@ pub found-some : (all : List Typing) (b : Branch) (k : ℕ) → Some k ≡ first
 found-some all b k e =
     sym (slice_get-map own_of all k) ∙ find-some (stands_at b) (owns all) k (e ∙ position-map (same_place (place_of_node b)) (λ (own : Own). own.place) 0 (owns all))
 
--- ---- what a type statement means
+-- ---- the type of a type statement
 
 pub type-good : (stmts : List Stmt) (site : Site) (fault : Option Found) (ty : YangType) → fault ≡ least None (judgement stmts site).faults → fault ≡ None → ty ≡ (judgement stmts site).type
     → ty ≡ stated_type stmts (Some site)
@@ -157,7 +157,7 @@ type-bad stmts site fault found is some =
     let bad : is_faulty (judgement stmts site) ≡ true = sym (some-faulty (judgement stmts site).faults) ∙ ap is_some (sym is ∙ some) in
     rw bad refl
 
--- ---- what a node finds
+-- ---- the element that a node finds
 
 -- no statement at the place of the node
 pub type-none : (stmts : List Stmt) (s : Option Site) → None ≡ option_map (own_at stmts) s → empty ≡ stated_type stmts (option_and_then type_in s)

@@ -1,4 +1,4 @@
--- Texts that are the same; the words of leafs and types.
+-- Equal texts; the keywords of leafs and types.
 use Rattle.std.proofs.Common.{◌≡◌, ℕ, List, [], ◌∷◌, Some, Bool, true, false, not, nat_eq, is_some, ◌&&◌, ◌||◌, codes, refl, sym, ap, ◌∙◌, inl, inr, arith}
 use Rattle.std.proofs.lemmas.Bool.{cases_Bool}
 use Rattle.std.proofs.lemmas.Bool.Decides.{nat_tests}
@@ -23,7 +23,7 @@ leaf-is = refl
 pub leaf-word : (text : List ℕ) → same text (codes "leaf") ≡ true → Some Leaf ≡ keyword_of text
 leaf-word text e = leaf-is ∙ ap keyword_of (sym (same-text text (codes "leaf") e))
 
--- whether what stands in a statement of this word means something
+-- whether substatements of a statement with this keyword have a meaning
 abbrev pub is_read_word : List ℕ → Bool
 is_read_word text = is_some (keyword_of text) && not (same text (word_of Extension))
 

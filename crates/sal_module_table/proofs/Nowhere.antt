@@ -1,4 +1,4 @@
--- Where no node has a leafref, none leads anywhere, and none has a fault.
+-- Without leafrefs there are no edges and no faults of leafrefs.
 use Rattle.std.proofs.Common.{◌≡◌, ℕ, ◌+◌, ◌<◌, List, [], ◌∷◌, ◌++◌, length, map, take, get_or, true, false, None, refl, sym, ap, ◌∙◌, inl, inr}
 use Rattle.std.specs.List.{flat_map, list_any}
 use Rattle.std.specs.Option.{option_to_list}

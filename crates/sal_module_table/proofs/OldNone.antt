@@ -1,4 +1,4 @@
--- Where no module is old, no base is one that a later version must not have, and tables are judged as those of `build` are.
+-- Without old modules no base is forbidden for a later version, and tables are judged as in `build`.
 use Rattle.std.proofs.Common.{◌≡◌, ℕ, Bool as Truth, true, false, List, [], ◌∷◌, ◌++◌, Option, Some, None, Ok, refl, ap, ◌∙◌, append-nil, inl, inr, arith}
 use Rattle.std.specs.Prelude.{nat_lt, nat_le, if◌then◌else◌}
 use Rattle.std.specs.List.{flat_map, slice_get}

@@ -1,4 +1,4 @@
--- Places and the first numbers with them; what is kept of wanted statements.
+-- Places and the first numbers with them; the kept places of required statements.
 use Rattle.std.proofs.Common.{◌≡◌, ℕ, zero, suc, ◌+◌, ◌<◌, List, [], ◌∷◌, length, get_or, Bool, true, Some, is_some, refl, ◌∙◌, sym, ap, inl, inr, arith, if◌then◌else◌}
 use Rattle.std.specs.List.{position_from}
 use Rattle.std.specs.BTreeMap.{UpdatesBy, get}

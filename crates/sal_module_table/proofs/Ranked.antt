@@ -1,4 +1,4 @@
--- Values of numbers, made in an order in which what each one names stands before it.
+-- Values by number, made in an order in which the numbers that a value uses are before it.
 use Rattle.std.proofs.Common.{◌≡◌, ℕ, zero, suc, ◌+◌, ◌<◌, ◌==◌, List, [], length, get_or, Bool, true, refl, sym, ap, ◌∙◌, inl, inr, arith}
 use Rattle.std.specs.Prelude.{if◌then◌else◌}
 use Rattle.std.specs.List.{list_all}

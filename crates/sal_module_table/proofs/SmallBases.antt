@@ -1,4 +1,4 @@
--- The numbers of bases have 32 bits, where there are fewer than 2^32 statements.
+-- The numbers of bases have 32 bits, if there are fewer than 2^32 statements.
 use Rattle.std.proofs.Common.{◌≡◌, ℕ, zero, suc, ◌<◌, ◌^◌, nat_lt, All, List, [], ◌∷◌, map, length, Option, Some, None, Ok, inl, inr}
 use Rattle.std.specs.Prelude.{IfSome}
 use Rattle.std.specs.List.{flat_map}

@@ -1,4 +1,4 @@
--- The table to which modules are related, or the first fault. Each pass is judged only where those before it found nothing.
+-- The table of modules, or the first fault. Each check runs only if those before it found nothing.
 use Rattle.std.specs.Prelude.{ℕ, List, ◌++◌, map, Result, Ok}
 use Rattle.sal_types.specs.Reading.{◌>>=◌}
 use Rattle.sal_stmt.specs.declared.stmt.Stmt.{Stmt}
@@ -28,11 +28,11 @@ table_of stmts forest = record {
 abbrev pub name_faults : List Stmt → List Branch → List Found
 name_faults stmts forest = types.name_faults stmts ++ identities.all_faults stmts ++ leafrefs.all_faults stmts forest
 
--- the table of this forest, where its lists have no fault
+-- the table of this forest, if its lists have no fault
 abbrev pub listed : List Stmt → List Branch → Result SchemaTable BuildFault
 listed stmts forest = unless_any (lists.all_faults stmts forest) forest >>= (λ forest. Ok (table_of stmts forest))
 
--- the table of this forest, where no part that follows finds a fault
+-- the table of this forest, if no later check finds a fault
 abbrev pub judged : List Stmt → List Branch → Result SchemaTable BuildFault
 judged stmts forest =
     unless_any (name_faults stmts forest) forest
@@ -40,7 +40,7 @@ judged stmts forest =
     >>= (λ forest. unless_any (lists.all_faults stmts forest) forest)
     >>= (λ forest. Ok (table_of stmts forest))
 
--- The faults of types that do not count as faults of names, where the modules before number `old` are those of an earlier version.
+-- The faults of types that are not faults of names, where the modules before index `old` are those of an earlier version.
 abbrev pub other_faults : ℕ → List Stmt → List Found
 other_faults old stmts = types.other_faults stmts ++ old_bases.all_faults old stmts
 

@@ -1,4 +1,4 @@
--- Nodes by their names below other nodes (RFC 7950 sections 6.2.1 and 6.5).
+-- Children of nodes by name (RFC 7950 sections 6.2.1 and 6.5).
 use Rattle.std.specs.Prelude.{ℕ, Bool, false, List, take, Option, Some, None, option_and_then, if◌then◌else◌}
 use Rattle.std.specs.List.{position_from}
 use Rattle.std.specs.Ordering.{eq_by_cmp}
@@ -30,11 +30,11 @@ abbrev pub is_found_by : Key → Option Key → Bool
 is_found_by wanted None = false
 is_found_by wanted (Some own) = same_key wanted own
 
--- the one that stands first counts
+-- the number found earlier, or this one if it is a hit
 abbrev pub with_first : Option ℕ → Bool → ℕ → Option ℕ
 with_first = indexes.with_first
 
--- the first node that has this key, where each has one or none
+-- the first node with this key, if each has one or none
 abbrev pub first_with : (Branch → Option Key) → List Branch → Key → Option ℕ
 first_with key_of forest wanted = position_from (λ b. is_found_by wanted (key_of b)) 0 forest
 
@@ -46,17 +46,17 @@ is_leaf_kind = is_leaf
 abbrev pub local_name : List ℕ → List ℕ
 local_name = names.local_name
 
--- A node is found below its parent: leafs and other nodes apart, since a choice may have the name of a leaf beside it.
+-- The key below its parent. Leafs have keys that differ from those of other nodes, since a choice may have the name of a leaf beside it.
 abbrev pub child_key : List Stmt → Branch → Option Key
 child_key stmts b = Some (key (is_leaf (kind_of stmts b)) b.parent b.module (name_of stmts b))
 
--- A node for data is also found below the node that its data stand under.
+-- A data node also has a key below its data parent.
 abbrev pub data_key : List Stmt → List Branch → Branch → Option Key
 data_key stmts forest b = if is_data (kind_of stmts b) then Some (key false (data_parent stmts forest b.parent) b.module (name_of stmts b)) else None
 
 -- ---- names in the statement of a node
 
--- The module of a name: without a prefix that of the node, which a `uses` can give another module than its statement's.
+-- The module of a name: without a prefix that of the node, which for the nodes of a `uses` may differ from its statement's.
 abbrev pub module_named : List Stmt → Branch → List ℕ → Option ℕ
 module_named stmts b text = if has_prefix text then imported stmts b.source (take (colon_at text) text) else Some b.module
 

@@ -59,6 +59,6 @@ more_kinds base =
     plain "module" 0 "more"
     (plain "prefix" 2 "m" [] ∷ plain "import" 10 "kinds" (plain "prefix" 12 "k" [] ∷ []) ∷ plain "identity" 20 "root" [] ∷ plain "identity" 30 "router" (plain "base" 32 base [] ∷ []) ∷ [])
 
--- the first base of both modules that names an identity of the first so many
+-- the first base of both modules that names an identity of the first `old` modules
 abbrev pub old_base : ℕ → String → Option Found
 old_base old base = least None (old_bases.all_faults old (kinds ∷ more_kinds base ∷ []))

@@ -1,4 +1,4 @@
--- Types with those of the targets of leafrefs: a leafref takes its target's type (RFC 7950 section 9.9).
+-- Types with those of the targets of leafrefs: a leafref has its target's type (RFC 7950 section 9.9).
 use Rattle.std.specs.Prelude.{ℕ, zero, suc, Bool, true, false, List, [], ◌∷◌, ◌++◌, map, length, drop, slice_index_or, if◌then◌else◌}
 use Rattle.sal_restrict.specs.declared.yang_type.YangType.{YangType, out-YangType, roll-YangType}
 use Rattle.sal_restrict.specs.declared.yang_type.YangType.TheOpen.{YangType-F}
@@ -12,7 +12,7 @@ abbrev pub is_reference : YangType-F YangType → Bool
 is_reference (YangType-F.Leafref path) = true
 is_reference layer = false
 
--- The members of a union with the next target's type for each leafref: where that is a union, its members.
+-- The members of a union with the next target's type for each leafref: if that is a union, its members.
 abbrev pub filled_member : YangType → List YangType → List YangType
 filled_member member types = if is_reference (out-YangType member) then members_of (type_at types 0) (out-YangType (type_at types 0)) else member ∷ []
 
@@ -34,11 +34,11 @@ filled t types = filled_layer t types (out-YangType t)
 
 -- ---- chains of leafrefs
 
--- The type of a node by those of its targets. Each node has a type of its own and the targets of its leafrefs.
+-- The type of a node from those of its targets. Each node has its stated type and the targets of its leafrefs.
 abbrev pub filled_at : List YangType → List (List ℕ) → (ℕ → YangType) → ℕ → YangType
 filled_at own edges above k = filled (type_at own k) (map above (slice_index_or edges k []))
 
--- in so many steps: without a cycle no way of leafrefs visits a node twice
+-- in at most n steps: without a cycle no path of leafrefs visits a node twice
 unfoldable pub node_type : List YangType → List (List ℕ) → ℕ → ℕ → YangType
 node_type own edges zero k = empty
 node_type own edges (suc n) k = filled_at own edges (node_type own edges n) k

@@ -1,4 +1,4 @@
--- Identities and what they are derived from (RFC 7950 section 7.18).
+-- Identities and the identities from which they are derived (RFC 7950 section 7.18).
 use Rattle.std.specs.Prelude.{ℕ, zero, suc, ◌+◌, ◌<◌, ◌^◌, ◌==◌, All, List, [], ◌∷◌, ◌++◌, map, fold, length, Option, Some, is_none, slice_index_or, if◌then◌else◌}
 use Rattle.std.specs.List.{flat_map, list_any, enumerate_from}
 use Rattle.std.specs.Option.{option_to_list}
@@ -42,20 +42,20 @@ Edges = List (List ℕ)
 abbrev pub edges_of : List Stmt → List (List ℕ)
 edges_of stmts = map (bases_of stmts) (identities_of stmts)
 
--- ---- what one is derived from
+-- ---- the identities from which one is derived
 
--- each number once, where it stands first
+-- each number once, at its first occurrence
 abbrev pub with_number : List ℕ → ℕ → List ℕ
 with_number out k = if list_any (λ j. j == k) out then out else out ++ k ∷ []
 
 abbrev pub once : List ℕ → List ℕ
 once numbers = fold with_number [] numbers
 
--- bases, each with what it is derived from
+-- bases, each with the identities from which it is derived
 abbrev pub joined : (ℕ → List ℕ) → List ℕ → List ℕ
 joined above bases = once (flat_map (λ base. base ∷ above base) bases)
 
--- Its bases, and what they are derived from, in so many steps. A way without a cycle visits no identity twice.
+-- Its bases, and the identities from which they are derived, in at most n steps. A path without a cycle visits no identity twice.
 unfoldable pub derived : ℕ → List (List ℕ) → ℕ → List ℕ
 derived zero edges i = []
 derived (suc n) edges i = joined (derived n edges) (slice_index_or edges i [])
@@ -75,7 +75,7 @@ infos_of stmts = infos_from (edges_of stmts) 0 (identities_of stmts)
 
 -- ---- faults
 
--- an identity that no module has, and one by which the identity around is derived from itself
+-- a base that is no identity, and one through which the identity around it is derived from itself
 abbrev pub target_faults : List (List ℕ) → ℕ → ℕ → Stmt → Option ℕ → List Found
 target_faults edges i m sub target =
     (if is_none target then at_stmt UnknownName m sub else [])
@@ -90,7 +90,7 @@ faults_of stmts edges i one = flat_map (base_faults stmts edges i one.0) (subs_o
 abbrev pub all_faults : List Stmt → List Found
 all_faults stmts = flat_map (λ (entry : ℕ × Identity). faults_of stmts (edges_of stmts) entry.0 entry.1) (enumerate_from 0 (identities_of stmts))
 
--- ---- what the code has
+-- ---- the code's form
 
 -- Each list has numbers of 32 bits.
 abbrev pub AreSmall : List (List ℕ) → Type 0

@@ -1,4 +1,4 @@
--- Where leafrefs lead, and the types of nodes (RFC 7950 sections 6.4.1 and 9.9).
+-- The targets of leafrefs, and the types of nodes (RFC 7950 sections 6.4.1 and 9.9).
 use Rattle.std.specs.Prelude.{◌≡◌, ◌≤◌, ℕ, zero, suc, ◌-◌, ◌==◌, Bool, true, false, ◌&&◌, List, [], ◌∷◌, ◌++◌, map, find, length, take, Option, Some, None, option_map, option_and_then, if◌then◌else◌}
 use Rattle.std.specs.List.{flat_map, enumerate_from, slice_get}
 use Rattle.std.specs.Option.{option_map_or, option_to_list}
@@ -40,7 +40,7 @@ type_in site = option_map (within site) (find (is_named word.Type) (subs_of site
 abbrev pub type_of : List Stmt → Branch → Option Site
 type_of stmts b = if has_type (kind_of stmts b) then option_and_then type_in (site_at stmts b.source b.at) else None
 
--- the leafrefs among a type and those that it rests on
+-- the leafrefs among a type and those that it depends on
 abbrev pub stated_leafrefs : List Stmt → Option Site → List Site
 stated_leafrefs stmts site = flat_map (leafrefs_of stmts) (option_to_list site)
 
@@ -56,7 +56,7 @@ references_at stmts b = map stmt_in (leafrefs_at stmts b)
 
 -- ---- places
 
--- The RPC's input or output, or the notification, in which a node stands: the paths in it have it for an operation at the top.
+-- The RPC's input or output, or the notification, that contains a node: for the paths in it, it is an operation at the top.
 abbrev pub message_in : Kind → ℕ → Option ℕ → Option ℕ
 message_in kind k over = if is_message kind then Some k else over
 
@@ -66,7 +66,7 @@ with_message stmts b k over = message_in (kind_of stmts b) k over
 abbrev pub message_of : List Stmt → List Branch → ℕ → Option ℕ
 message_of stmts forest k = from_above (with_message stmts) None forest k
 
--- A step up leads to the node that data stand under, and from a message to the top. No step leads up from there.
+-- A step up leads to the data parent, and from a message to the top. No step leads up from the top.
 abbrev pub above_branch : List Stmt → List Branch → Branch → Option ℕ
 above_branch stmts forest b = if is_message (kind_of stmts b) then None else data_parent stmts forest b.parent
 
@@ -89,7 +89,7 @@ operation_of forest n = option_and_then (λ (b : Branch). option_map_or (slice_g
 abbrev pub is_operation : List Stmt → List Branch → ℕ → ℕ → List ℕ → Bool
 is_operation stmts forest m n name = option_map_or (λ (b : Branch). b.module == m && same (name_of stmts b) name) (operation_of forest n) false
 
--- A name at the top may be that of the own operation, and means the own message then. No other path leads into one.
+-- A name at the top may be that of the leaf's own operation, and then refers to its message. No other path leads into a message.
 abbrev pub own_message : List Stmt → List Branch → Option ℕ → Option ℕ → ℕ → List ℕ → Option ℕ
 own_message stmts forest own (Some place) m name = None
 own_message stmts forest None None m name = None
@@ -105,7 +105,7 @@ or_else (Some n) other = Some n
 abbrev pub step_down : List Stmt → List Branch → Option ℕ → Option ℕ → ℕ → List ℕ → Option ℕ
 step_down stmts forest own place m name = or_else (own_message stmts forest own place m name) (data_child stmts forest place m name)
 
--- Without a prefix a name is of the module of the node that has the type, and with one of the module that its statement's text means.
+-- Without a prefix a name is of the module of the node that has the type, with one of the module that the prefix names in its statement's module.
 abbrev pub module_named : List Stmt → ℕ → ℕ → List ℕ → Option ℕ
 module_named stmts owner source text = if has_prefix text then imported stmts source (take (colon_at text) text) else Some owner
 
@@ -118,7 +118,7 @@ steps_down stmts forest own owner source place [] = place
 steps_down stmts forest own owner source place (name ∷ names) =
     option_and_then (λ n. steps_down stmts forest own owner source (Some n) names) (named_below stmts forest own owner source place name)
 
--- what paths are followed by
+-- the indexes for paths
 pub record AreWays (stmts : List Stmt) (forest : List Branch) (ways : Ways) : Type 0 where
   pub few : length forest ≤ 65536
   pub data_nodes : AreInherited (with_data_node stmts) None forest ways.data_nodes.items
@@ -127,7 +127,7 @@ pub record AreWays (stmts : List Stmt) (forest : List Branch) (ways : Ways) : Ty
 
 -- ---- targets
 
--- where its names begin, for a leaf under this place
+-- where its names begin, for a leaf with this data parent
 abbrev pub start_of : List Stmt → List Branch → Option ℕ → ℕ → Option (Option ℕ)
 start_of stmts forest place up = if up == 0 then Some None else steps_up (up - 1) stmts forest place
 
@@ -139,7 +139,7 @@ abbrev pub typed_node : List Stmt → List Branch → Option ℕ → Option ℕ
 typed_node stmts forest None = None
 typed_node stmts forest (Some n) = if has_type_at stmts forest n then Some n else None
 
--- where a path leads from the leaf k, which goes up so often and down by these names
+-- the end of the path from the leaf k, which goes up `up` steps and down by these names
 abbrev pub end_from : List Stmt → List Branch → Option ℕ → ℕ → ℕ → List (List ℕ) → Option (Option ℕ) → Option ℕ
 end_from stmts forest own owner source names None = None
 end_from stmts forest own owner source names (Some start) = typed_node stmts forest (steps_down stmts forest own owner source start names)
@@ -167,12 +167,12 @@ edges_of stmts forest = flat_map (λ (entry : ℕ × Branch). targets_of stmts f
 
 -- ---- faults
 
--- A leafref whose path ends at no leaf has the fault at the path. One without a path lacks what it needs, which another part judges.
+-- A leafref whose path ends at no leaf has the fault at the path. One without a path has another fault, which another check finds.
 abbrev pub target_faults : Option ℕ → Reference → List Found
 target_faults None one = flat_map (at_stmt BadTarget one.0) (option_to_list (find (is_named word.Path) (subs_of one.1)))
 target_faults (Some n) one = []
 
--- a leafref by which a node takes its own type
+-- a leafref through which a node's type depends on itself
 abbrev pub cycle_faults : List (List ℕ) → ℕ → Option ℕ → Reference → List Found
 cycle_faults edges k target one = if reaches_home edges (length edges) (Some k) target then at_stmt NameCycle one.0 one.1 else []
 
@@ -190,7 +190,7 @@ all_faults stmts forest = flat_map (λ (entry : ℕ × Branch). node_faults stmt
 
 -- ---- the type of a node
 
--- A type with a fault means nothing: such modules have no table.
+-- A type with a fault has no meaning: such modules have no table.
 abbrev pub sound_type : Judged → YangType
 sound_type judged = if is_faulty judged then empty else judged.type
 
@@ -198,7 +198,7 @@ abbrev pub stated_type : List Stmt → Option Site → YangType
 stated_type stmts None = empty
 stated_type stmts (Some site) = sound_type (judgement stmts site)
 
--- what the type statement of each node means, its leafrefs still paths
+-- the type of each node's type statement, with leafrefs as paths
 abbrev pub own_types : List Stmt → List Branch → List YangType
 own_types stmts forest = map (λ b. stated_type stmts (type_of stmts b)) forest
 
@@ -210,7 +210,7 @@ abbrev pub types_of : List Stmt → List Branch → List YangType
 types_of stmts forest =
     flat_map (λ (entry : ℕ × Branch). if has_type (kind_of stmts entry.1) then node_type stmts forest entry.0 ∷ [] else []) (enumerate_from 0 forest)
 
--- ---- what the code has
+-- ---- the code's form
 
 abbrev pub seen : List Leafref → List Reference
 seen all = map leafref_seen all

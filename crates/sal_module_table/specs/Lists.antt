@@ -28,7 +28,7 @@ own_stmt = nodes.own_stmt
 
 -- ---- texts of names
 
--- what stands between blanks
+-- the parts of a text between white space
 abbrev pub words_of : List ℕ → List (List ℕ)
 words_of text = filter (λ word. not (is_empty word)) (slice_split is_blank text)
 
@@ -42,7 +42,7 @@ is_list_kind = is_list
 abbrev pub is_list_at : List Stmt → List Branch → ℕ → Bool
 is_list_at stmts forest k = option_map_or (λ b. is_list (kind_of stmts b)) (slice_get forest k) false
 
--- a node that is no list
+-- a node that is not a list
 abbrev pub unless_list : List Stmt → List Branch → Option ℕ → Option ℕ
 unless_list stmts forest None = None
 unless_list stmts forest (Some n) = if is_list_at stmts forest n then None else Some n
@@ -56,7 +56,7 @@ key_leaf stmts forest k b name = child_named stmts forest b true k name
 abbrev pub keys_named : List Stmt → List Branch → ℕ → Branch → List ℕ → List (Option ℕ)
 keys_named stmts forest k b text = map (key_leaf stmts forest k b) (words_of text)
 
--- those that are there
+-- the numbers that exist
 abbrev pub given : List (Option ℕ) → List ℕ
 given named = flat_map option_to_list named
 
@@ -79,7 +79,7 @@ all_differ = valid.all_differ
 abbrev pub at_stmt : Cause → ℕ → Stmt → List Found
 at_stmt = profile.at_stmt
 
--- no names, a name that no leaf has, a leaf that stands twice, and one that differs from its list in `config`
+-- no names, a name that no leaf has, a repeated leaf, and one that differs from its list in `config`
 abbrev pub are_bad_keys : List Stmt → List Branch → ℕ → List (Option ℕ) → Bool
 are_bad_keys stmts forest k named = (is_missing named || not (all_differ nat_eq (given named))) || list_any (differs stmts forest k) (given named)
 
@@ -88,7 +88,7 @@ is_bad_key stmts forest k b text = are_bad_keys stmts forest k (keys_named stmts
 
 -- ---- its unique leafs
 
--- the leaf below a node to which the steps lead through nodes that are no lists
+-- the leaf below a node at the end of these steps, through nodes that are not lists
 abbrev pub leaf_below : List Stmt → List Branch → Branch → ℕ → List (List ℕ) → Option ℕ
 leaf_below stmts forest b above [] = None
 leaf_below stmts forest b above (step ∷ []) = child_named stmts forest b true above step
@@ -106,12 +106,12 @@ is_bad_unique stmts forest k b text = is_missing (uniques_named stmts forest k b
 
 -- ---- a list
 
--- what stands in the block of a node
+-- the statements in the block of a node
 abbrev pub block_of : Option Stmt → List Stmt
 block_of None = []
 block_of (Some stmt) = subs_of stmt
 
--- the keys that a statement gives
+-- the keys that a statement names
 abbrev pub keys_in : List Stmt → List Branch → ℕ → Branch → Stmt → List ℕ
 keys_in stmts forest k b sub = if is_named word.Key sub then given (keys_named stmts forest k b (argument_of sub)) else []
 
@@ -141,7 +141,7 @@ list_faults stmts forest k b subs = if is_list (kind_of stmts b) then flat_map (
 abbrev pub is_under_state : List Stmt → List Branch → Branch → Bool
 is_under_state stmts forest b = same_config (config_above stmts forest b.parent) (Some false)
 
--- `config true` where the node above is state data
+-- `config true` below state data
 abbrev pub config_fault : List Stmt → List Branch → Branch → Stmt → List Found
 config_fault stmts forest b sub =
     if (is_named word.Config sub && is_true (argument_of sub)) && is_under_state stmts forest b then at_stmt ConfigUnderState b.source sub else []
@@ -155,7 +155,7 @@ node_faults stmts forest k b = list_faults stmts forest k b (block_of (own_stmt 
 abbrev pub all_faults : List Stmt → List Branch → List Found
 all_faults stmts forest = flat_map (λ (entry : ℕ × Branch). node_faults stmts forest entry.0 entry.1) (enumerate_from 0 forest)
 
--- ---- what is kept beside a forest
+-- ---- indexes of a forest
 
 -- the children and the config of each node
 pub record AreTables (stmts : List Stmt) (forest : List Branch) (tables : Tables) : Type 0 where

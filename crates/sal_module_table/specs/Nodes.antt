@@ -1,4 +1,4 @@
--- What the statement of a node says of it (RFC 7950 section 7).
+-- The properties that a node has from its statement (RFC 7950 section 7).
 use Rattle.std.specs.Prelude.{ℕ, Bool, true, false, List as Row, [], Option, Some, None, is_some, find, min, option_map, if◌then◌else◌, codes}
 use Rattle.std.specs.List.{list_any}
 use Rattle.std.specs.Option.{option_map_or}
@@ -17,11 +17,11 @@ use Rattle.sal_schema.specs.declared.kind.Kind.TheVariants.{Container, List, Lea
 
 -- ---- its statement
 
--- the statement at the place of a node
+-- the statement at the offset of a node
 abbrev pub stmt_of : Row Stmt → Branch → Option Stmt
 stmt_of stmts b = stmt_at stmts b.source b.at
 
--- and that of a node that is not implied
+-- the statement of a node that is not implied
 abbrev pub own_stmt : Row Stmt → Branch → Option Stmt
 own_stmt stmts b = if is_some b.implied then None else stmt_of stmts b
 
@@ -68,11 +68,11 @@ name_in Input name = codes "input"
 name_in Output name = codes "output"
 name_in kind name = name
 
--- an implied case has the name of the node inside it
+-- an implied case has the name of its node
 abbrev pub name_of : Row Stmt → Branch → Row ℕ
 name_of stmts b = name_in (kind_of stmts b) (argument_in (stmt_of stmts b))
 
--- ---- what stands in its block
+-- ---- its substatements
 
 -- the argument of the statement of this keyword
 abbrev pub stated : Keyword → Option Stmt → Option (Row ℕ)
@@ -101,7 +101,7 @@ limit_of text = if same text (codes "unbounded") then None else Some (count_of t
 abbrev pub max_elements : Option Stmt → Option ℕ
 max_elements stmt = option_map_or limit_of (stated word.MaxElements stmt) None
 
--- the parameters of an operation, and what is below a notification, are no data
+-- the parameters of an operation, and the nodes below a notification, are not data
 abbrev pub is_operation : Kind → Bool
 is_operation Rpc = true
 is_operation Notification = true

@@ -1,5 +1,5 @@
--- Bases that a later version must not have: a `base` in an identity of a new module that names an identity of an old module. Without them a value
--- that an old type accepts is one that it accepted before.
+-- Bases that a later version must not have: a `base` in an identity of a new module that names an identity of an old module. Without them every value
+-- that an old type accepts was accepted before.
 use Rattle.std.specs.Prelude.{ℕ, ◌&&◌, nat_lt, nat_le, Bool as Truth, false, List, [], Option, Some, None, if◌then◌else◌}
 use Rattle.std.specs.List.{flat_map, slice_get}
 use Rattle.std.specs.Option.{option_map_or}
@@ -12,7 +12,7 @@ use Rattle.sal_module.specs.Profile.{at_stmt}
 use Rattle.sal_typedefs.specs.Scopes.{identity_of}
 use Rattle.sal_module_table.specs.Identities.{Identity, identities_of}
 
--- Whether this number is that of an identity of an old module. The old modules are those before number `old`.
+-- Whether this number is that of an identity of an old module. The old modules are those before index `old`.
 abbrev pub is_old : ℕ → List Identity → Option ℕ → Truth
 is_old old all None = false
 is_old old all (Some i) = option_map_or (λ (one : Identity). nat_lt one.0 old) (slice_get all i) false

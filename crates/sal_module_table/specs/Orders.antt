@@ -1,4 +1,4 @@
--- Numbers in an order in which what each one names stands before it.
+-- Numbers in an order in which the targets of each one's edges come before it.
 use Rattle.std.specs.Prelude.{◌≡◌, ℕ, ◌<◌, Bool, true, ◌&&◌, ◌==◌, nat_lt, List, [], map, length, slice_index_or, Vec}
 use Rattle.std.specs.List.{list_all}
 use Rattle.std.specs.declared.alloc.Global.{Global}
@@ -9,7 +9,7 @@ rank_of ranks i = slice_index_or ranks i 0
 abbrev pub is_lower : List ℕ → ℕ → ℕ → ℕ → Bool
 is_lower ranks count i k = nat_lt k count && nat_lt (rank_of ranks k) (rank_of ranks i)
 
--- The number stands at its rank, and what it names at lower ones.
+-- The number is at its rank, and the targets of its edges at lower ones.
 abbrev pub is_placed : List (List ℕ) → List ℕ → List ℕ → ℕ → Bool
 is_placed edges ranks order i =
     (nat_lt (rank_of ranks i) (length edges) && slice_index_or order (rank_of ranks i) (length edges) == i)

@@ -8,7 +8,7 @@ use Rattle.sal_module_table.specs.Nodes.{kind_of, name_of, own_stmt, is_mandator
 use Rattle.sal_module_table.specs.Inherited.{config_of}
 use Rattle.sal_module_table.specs.Lists.{keys_of, uniques_of}
 
--- Each leaf and leaf-list has a type of its own, numbered in their order.
+-- Each leaf and leaf-list has its own type, numbered in their order.
 abbrev pub is_typed : List Stmt → Branch → Bool
 is_typed stmts b = has_type (kind_of stmts b)
 

@@ -1,4 +1,4 @@
--- The type statements of nodes, as one walk over all statements finds them.
+-- The type statements of nodes, found by one search through all statements.
 use Rattle.std.specs.Prelude.{◌≡◌, ℕ, zero, suc, ◌<◌, Bool, List, [], ◌∷◌, map, find, length, Option, is_some, option_map, if◌then◌else◌, slice_index_or, Vec}
 use Rattle.std.specs.declared.alloc.Global.{Global}
 use Rattle.std.specs.List.{flat_map, enumerate_from, position_from}
@@ -50,7 +50,7 @@ is_wanted wanted q = is_some (get place_cmp wanted q)
 
 -- ---- all statements
 
--- a statement and those in so many levels below it, in the order of the text
+-- a statement and those in `levels` levels below it, in the order of the text
 unfoldable pub sites : ℕ → Site → List Site
 sites zero site = site ∷ []
 sites (suc levels) site = site ∷ flat_map (λ sub. sites levels (within site sub)) (subs_of site.stmt)
@@ -58,9 +58,9 @@ sites (suc levels) site = site ∷ flat_map (λ sub. sites levels (within site s
 abbrev pub sites_of : List Stmt → List Site
 sites_of stmts = flat_map (λ (entry : ℕ × Stmt). sites 64 (top entry.0 entry.1)) (enumerate_from 0 stmts)
 
--- ---- what is kept of a statement
+-- ---- the entry for a statement
 
--- its place, what the type statement in it means, and its leafrefs with their modules
+-- its place, the type in it, and its leafrefs with their modules
 pub record Own : Type 0 where
   pub place : Place
   pub type : YangType
@@ -72,7 +72,7 @@ own_with stmts at site = record { place = at; type = stated_type stmts site; lea
 abbrev pub own_at : List Stmt → Site → Own
 own_at stmts site = own_with stmts (place_at site) (type_in site)
 
--- where it is wanted
+-- if it is wanted
 abbrev pub own_here : Places → List Stmt → Site → List Own
 own_here wanted stmts site = if is_wanted wanted (place_at site) then own_at stmts site ∷ [] else []
 
@@ -82,7 +82,7 @@ owns_in wanted levels stmts site = flat_map (own_here wanted stmts) (sites level
 abbrev pub owns_of : Places → List Stmt → List Own
 owns_of wanted stmts = flat_map (own_here wanted stmts) (sites_of stmts)
 
--- as the code has it
+-- in the code's form
 abbrev pub own_of : Typing → Own
 own_of t = record { place = t.place; type = t.ty; leafrefs = map leafref_seen t.leafrefs.items }
 
@@ -106,7 +106,7 @@ found_for all b = find (stands_at b) all
 abbrev pub own_of_node : List Stmt → Branch → Option Own
 own_of_node stmts b = option_map (own_at stmts) (site_at stmts b.source b.at)
 
--- what each node needs is kept
+-- the entries have what each node needs
 pub record AreTyped (stmts : List Stmt) (forest : List Branch) (types : NodeTypes) : Type 0 where
   pub places : AreFirst (places_of (owns types.all.items)) types.places
   pub each : (i : ℕ) (d : Branch) → i < length forest → found_for (owns types.all.items) (slice_index_or forest i d) ≡ own_of_node stmts (slice_index_or forest i d)

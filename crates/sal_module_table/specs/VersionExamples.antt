@@ -1,4 +1,4 @@
--- Two modules for the examples: `topo` has the nodes of a network. The later `geo` adds a leaf to each of them, and has a container of its own.
+-- Two modules for the examples: `topo` has the nodes of a network. The later `geo` adds a leaf to each of them, and has a container.
 use Rattle.std.specs.Prelude.{ℕ, false, List as Row, [], ◌∷◌, ◌++◌, Option, Some, None, codes}
 use Rattle.sal_stmt.specs.declared.stmt.Stmt.{Stmt}
 use Rattle.sal_module.specs.Examples.{plain}
@@ -38,11 +38,11 @@ branch parent m at = record { parent = parent; «module» = m; source = m; at = 
 abbrev pub first_nodes : Row Branch
 first_nodes = branch None 0 10 ∷ branch (Some 0) 0 20 ∷ branch (Some 1) 0 30 ∷ []
 
--- the new module's own node, then that of its augment
+-- the node of the new module, then that of its augment
 abbrev pub later_nodes : Row Branch
 later_nodes = branch None 0 10 ∷ branch (Some 0) 0 20 ∷ branch (Some 1) 0 30 ∷ branch None 1 40 ∷ branch (Some 1) 1 30 ∷ []
 
--- ---- what the tables say of them
+-- ---- their lines in the tables
 
 abbrev pub first_lines : Row NodeInfo
 first_lines = node None (Container false) 0 (codes "network") ∷ list (Some 0) 0 (codes "node") (2 ∷ []) ∷ leaf (Some 1) 0 (codes "id") 0 ∷ []

@@ -19,7 +19,7 @@ use Rattle.sal_mount.specs.Register.{IsKept, Register, is_up, last_at, listed, l
 use Rattle.sal_mount.proofs.Made.{gone-one, gone-same, mounted-one, mounted-same, standing-without, was-one}
 use Rattle.sal_types.proofs.Shared.{and-true, same_path}
 
--- ---- what a register tells of the calls
+-- ---- what a register shows of the calls
 
 was-of : (w g : Bool) → is_some (state_of w g) ≡ w
 was-of true g = refl
@@ -154,7 +154,7 @@ or-none false b e = refl
 own_number : (k : ℕ) → nat_eq k k ≡ true
 own_number k = grind (arith, nat_tests)
 
--- the last device at a path, where another one comes up
+-- the last device at a path, after another one was mounted
 up_live : (old new : Register) (k : ℕ) → ((d : ℕ) → state_at new.states d ≡ (if nat_eq k d then Some true else state_at old.states d)) → (made : List Made) → was_mounted made k ≡ false → (o : Option ℕ) → IfSome o (λ d. was_mounted made d ≡ true) → live_of new.states o ≡ live_of old.states o
 up_live old new k sets made unused None was = refl
 up_live old new k sets made unused (Some d) was =

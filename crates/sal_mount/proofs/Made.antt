@@ -1,4 +1,4 @@
--- What one call more does to what was mounted and unmounted.
+-- The effect of one more call on the mounted and the unmounted devices.
 use Rattle.std.proofs.Common.{◌≡◌, ℕ, Bool, true, false, not, ◌&&◌, ◌||◌, List, [], ◌∷◌, ◌++◌, Some, None, refl, ap, ◌∙◌, cond, append-nil, if◌then◌else◌, nat_eq}
 use Rattle.std.specs.List.{cons_option, filter, filter_map, list_any}
 use Rattle.std.proofs.lemmas.List.Elements.{filter_map-append}
@@ -30,7 +30,7 @@ module _ (made : List Made) (m : Made) where
 pub was-one : (ms : List Mounted) (x : Mounted) (d : ℕ) → list_any (λ (m : Mounted). nat_eq m.device d) (ms ++ x ∷ []) ≡ (list_any (λ (m : Mounted). nat_eq m.device d) ms || nat_eq x.device d)
 was-one ms x d = list_any-append (λ (m : Mounted). nat_eq m.device d) ms (x ∷ []) ∙ ap (λ b. list_any (λ (m : Mounted). nat_eq m.device d) ms || b) (or-false (nat_eq x.device d))
 
--- where one device more is unmounted, it stands nowhere, and all others stand where they stood
+-- when one more device is unmounted it has no place, and all others keep theirs
 pub standing-without : (gone : ℕ → Bool) (k : ℕ) (p : List Step) (ms : List Mounted) → filter_map (stands_at (λ d. gone d || nat_eq k d) p) ms ≡ filter (λ d. not (nat_eq k d)) (filter_map (stands_at gone p) ms)
 standing-without gone k p [] = refl
 standing-without gone k p (m ∷ ms) =

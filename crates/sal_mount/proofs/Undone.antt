@@ -1,4 +1,4 @@
--- What was put at a new key and is taken out again leaves the entries as they were.
+-- To insert at a new key and remove again gives the same entries.
 use Rattle.std.proofs.Common.{◌≡◌, ℕ, Bool, List, [], ◌∷◌, Some, None, refl, ap, sym, ◌∙◌, cond}
 use Rattle.std.specs.BTreeMap.{insert_entry, is_at}
 use Rattle.std.specs.Cmp.{nat_cmp_total, tied_itself}

@@ -1,4 +1,4 @@
--- A tree that was patched is judged near its patches.
+-- The rules of a patched tree, checked near its patches.
 use Rattle.std.specs.Prelude.{◌≡◌, Bool, true, false, not, ◌&&◌, ◌||◌, List, Option, Some, None, is_some}
 use Rattle.std.specs.List.{list_all, list_any}
 use Rattle.sal_types.specs.declared.value.Cell.{Cell}
@@ -11,7 +11,7 @@ use Rattle.sal_schema.specs.declared.table.SchemaTable.{SchemaTable}
 use Rattle.sal_schema.specs.Fitting.{cell_fits, prefixes, is_whole_at, is_in_message, is_closed, is_of_state}
 use Rattle.sal_schema.specs.Paths.{fits_path}
 
--- the patch's path fits, and its cell is one for the node there
+-- the patch's path fits, and its cell fits the node there
 abbrev pub cell_or_none_fits : SchemaTable → List Step → Option Cell → Bool
 cell_or_none_fits table path None = true
 cell_or_none_fits table path (Some c) = cell_fits table path c
@@ -28,7 +28,7 @@ patches_fit table ps = list_all (patch_fits table) ps
 abbrev pub is_whole_if_there : SchemaTable → List Row → List Step → Bool
 is_whole_if_there table rows path = not (has rows path) || is_whole_at table rows path
 
--- the same for the path and all above it
+-- the same for the path and all its prefixes
 abbrev pub is_whole_to : SchemaTable → List Row → List Step → Bool
 is_whole_to table rows path = list_all (is_whole_if_there table rows) (prefixes path)
 
@@ -39,7 +39,7 @@ is_near table rows p = not (is_in_message table p.path && has rows p.path) && is
 abbrev pub are_near : SchemaTable → List Row → List Patch → Bool
 are_near table rows ps = list_all (is_near table rows) ps
 
--- The rows after the patches are closed exactly where all near these is whole.
+-- The rows after the patches are closed exactly if all paths near these are whole.
 abbrev pub NearIsClosed : Type 0
 NearIsClosed =
     (table : SchemaTable) (before : List Row) (ps : List Patch) → IsAscending before → is_closed table before ≡ true → patches_fit table ps ≡ true
@@ -58,6 +58,6 @@ leaves_state table rows p = is_of_state table p.path && is_some (cell rows p.pat
 abbrev pub leave_state : SchemaTable → List Row → List Patch → Bool
 leave_state table rows ps = list_any (leaves_state table rows) ps
 
--- The rows after the patches have state data exactly where a patch left some.
+-- The rows after the patches have state data exactly if a patch set some.
 abbrev pub StateIsNear : Type 0
 StateIsNear = (table : SchemaTable) (before : List Row) (ps : List Patch) → has_state table before ≡ false → has_state table (patched before ps) ≡ leave_state table (patched before ps) ps

@@ -26,7 +26,7 @@ turn x y e = step_cmp-IsTotalOrder.antisymm y x ∙ ap ordering_reverse e
 pub turn_back : (x y : Step) → step_cmp x y ≡ Greater → step_cmp y x ≡ Less
 turn_back x y e = step_cmp-IsTotalOrder.antisymm y x ∙ ap ordering_reverse e
 
--- every entry stands before the step
+-- every entry is before the step
 abbrev pub AllBefore : Step → Entries → Type 0
 AllBefore x [] = Unit {0}
 AllBefore x (e ∷ es) = (step_cmp x e.0 ≡ Greater) × AllBefore x es
@@ -86,7 +86,7 @@ change-parts x (Some t) (e ∷ es) =
       | Greater ↦ λ q. ap (λ (l : Entries). e ∷ l) (change-parts x (Some t) es) ∙ ap (λ n. take n (e ∷ es) ++ ((x, t) ∷ after x es)) (let q : suc (place x es) ≡ 1 + place x es = omega arith in q)
     ] refl
 
--- what stands before an entry that does not stand after the step, in a list that rises
+-- in a rising list, the entries before one that is not after the step
 pub sorted-front : (x : Step) (front : Entries) (e : Step × Tree) (es : Entries) → T (is_sorted step_cmp (front ++ (e ∷ es))) → is_gt (step_cmp e.0 x) ≡ false → AllBefore x front
 sorted-front x [] e es h g = tt
 sorted-front x (f ∷ front) e es h g =
@@ -101,7 +101,7 @@ sorted-front x (f ∷ front) e es h g =
     upto Equal p q r = step_cmp-IsTotalOrder.antisymm f.0 x ∙ ap ordering_reverse (sym (step_cmp-IsTotalOrder.congr e.0 x f.0 r) ∙ turn f.0 e.0 p)
     upto Greater p q r = cc
 
--- what stands from an entry after the step on, in a list that rises
+-- in a rising list, the entries from one after the step on
 pub sorted-tail : (front es : Entries) → T (is_sorted step_cmp (front ++ es)) → T (is_sorted step_cmp es)
 sorted-tail [] es h = h
 sorted-tail (f ∷ front) es h = sorted-tail front es (second (below_all step_cmp f.0 (front ++ es)) _ h)

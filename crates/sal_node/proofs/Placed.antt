@@ -1,4 +1,4 @@
--- The sheets around the one in which a step stands.
+-- The sheets around the one that has a step.
 use Rattle.std.proofs.Common.{◌≡◌, ℕ, suc, zero, ◌+◌, ◌<◌, ◌≤◌, true, false, List, [], ◌∷◌, ◌++◌, length, take, drop, get_or, Option, refl, ap, sym, ◌∙◌, subst, append_assoc, arith}
 use Rattle.std.specs.Prelude.{T}
 use Rattle.std.proofs.Math.Seq.{drop-cons}

@@ -26,7 +26,7 @@ below_at y [] i c l at h = absurd (omega arith)
 below_at y (d ∷ cs) zero c l at h = ap (λ (e : Arc Child Global). step_cmp y e.value.step) at ∙ less _ (first _ (below_all step_cmp y (row_of cs)) h)
 below_at y (d ∷ cs) (suc i) c l at h = below_at y cs i c (omega arith) at (second (is_lt (step_cmp y d.value.step)) _ h)
 
--- in children that rise, a child before the step stands before its place
+-- in rising children, a child before the step is before the place of the step
 pub place-above : (x : Step) (cs : List (Arc Child Global)) (i : ℕ) (c : Arc Child Global) → T (is_sorted step_cmp (row_of cs)) → i < length cs → c ≡ get_or cs i c → is_gt (step_cmp x c.value.step) ≡ true → i < place x (row_of cs)
 place-above x [] i c h l at g = absurd (omega arith)
 place-above x (d ∷ cs) zero c h l at g =

@@ -1,4 +1,4 @@
--- What a client's box has when notifications are offered and withdrawn.
+-- A client's box when notifications are offered and withdrawn.
 use Rattle.std.proofs.Common.{◌≡◌, ℕ, zero, suc, ◌-◌, ◌<◌, ◌≤◌, Bool, true, false, ◌||◌, List, [], ◌∷◌, ◌++◌, Option, Some, None, length, drop, take, get_or, refl, ap, sym, ◌∙◌, cond, arith, append-nil, length-append, drop-cons, if◌then◌else◌, nat_eq}
 use Rattle.std.specs.Prelude.{is_some, slice_get}
 use Rattle.std.specs.BTreeMap.{insert_entry, is_at}
@@ -41,7 +41,7 @@ pub last-dropped : (xs : List ℕ) (n : ℕ) → 0 < n → n ≤ length xs → d
 last-dropped xs zero low high = absurd (omega arith)
 last-dropped xs (suc k) low high = let one : suc k - 1 ≡ k = omega arith in let within : k < length xs = omega (arith, high) in ap (λ n. drop n xs) one ∙ drop-cons xs k 0 within ∙ ap (λ n. get_or xs n 0 ∷ drop (suc k) xs) (sym one)
 
--- ---- what was put at a new key and is taken out again leaves the entries as they were
+-- ---- to insert at a new key and remove again gives the same entries
 
 pub remove-insert : (k : ℕ) (v : List Note) (es : List (ℕ × List Note)) → lookup (is_at (nat_cmp k)) es ≡ None → remove_entry (is_at (nat_cmp k)) (insert_entry nat_cmp es k v) ≡ es
 remove-insert k v [] none = let e : List (ℕ × List Note) = (k, v) ∷ [] in ap (λ r. cond (is_eq r) [] e) (tied_itself nat_cmp_total k)
@@ -71,7 +71,7 @@ set-set test (e ∷ es) v w =
       | false ↦ λ h. ap (λ b. cond b ((e.0, w) ∷ set_value test es v) (e ∷ set_value test (set_value test es v) w)) h ∙ ap (λ l. e ∷ l) (set-set test es v w)
     ] refl
 
--- what is not there is not written
+-- a box that does not exist is not written
 pub none-there : (note : Note) (es : List (ℕ × List Note)) (c : ℕ) → box_in es c ≡ None → give_one note es c ≡ es
 none-there note es c none = ap (λ o. put_back es c o (λ q. q ++ note ∷ [])) none
 
@@ -95,7 +95,7 @@ taken-given note es c = by_box (box_in es c) refl
         let there : box_in es2 c ≡ Some w = box-set es c w c (ap is_some e) ∙ ap (λ b. if b then Some w else box_in es c) own in
         ap (λ l. take_one l c) set ∙ ap (λ o. put_back es2 c o (λ q. take (length q - 1) q)) there ∙ ap (set_value (is_at (nat_cmp c)) es2) (front-of q note) ∙ set-set (is_at (nat_cmp c)) es w q ∙ set_value_same (is_at (nat_cmp c)) es q e
 
--- what was given to all and is taken back leaves the boxes as they were
+-- to give to all and to take back again gives the same boxes
 pub all-taken : (note : Note) (es : List (ℕ × List Note)) (cs : List ℕ) → taken_back (given note es cs) cs ≡ es
 all-taken note es [] = refl
 all-taken note es (c ∷ cs) = ap (λ l. take_one l c) (all-taken note (give_one note es c) cs) ∙ taken-given note es c

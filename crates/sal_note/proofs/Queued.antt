@@ -1,4 +1,4 @@
--- What one call more does to subscribers and queues.
+-- The effect of one more call on subscribers and queues.
 use Rattle.std.proofs.Common.{◌≡◌, ℕ, true, false, ◌&&◌, List, [], ◌∷◌, ◌++◌, refl, ap, ◌∙◌, append-nil, if◌then◌else◌, nat_eq}
 use Rattle.std.specs.List.{fold, list_any}
 use Rattle.std.proofs.lemmas.List.Sums.{fold-append}
@@ -16,11 +16,11 @@ module _ (made : List Made) (m : Made) where
   queue-more : (client : ℕ) → queue (made ++ m ∷ []) client ≡ (if takes m.call && nat_eq m.client client then [] else queue made client ++ brings client m.call m.reply m.subscribed)
   queue-more client = fold-append (λ (notes : List Note) (a : Made). if takes a.call && nat_eq a.client client then [] else notes ++ brings client a.call a.reply a.subscribed) [] made (m ∷ [])
 
-  -- who subscribes nobody
+  -- a call without subscribers
   pub subscribers-same : (note : ℕ) → subscribes note m.client m.call ≡ [] → subscribers (made ++ m ∷ []) note ≡ subscribers made note
   subscribers-same note none = subscribers-more note ∙ ap (λ (cs : List ℕ). fold (λ ds c. with_client c ds) (subscribers made note) cs) none
 
-  -- who takes nothing, and brings nothing
+  -- a call that takes and adds no notification
   pub queue-same : (client : ℕ) → takes m.call ≡ false → brings client m.call m.reply m.subscribed ≡ [] → queue (made ++ m ∷ []) client ≡ queue made client
   queue-same client keeps none =
       queue-more client

@@ -1,4 +1,4 @@
--- What was written as an order is read as that order.
+-- A written order is read as that order.
 use Rattle.std.proofs.Common.{◌≡◌, ℕ, zero, suc, ◌+◌, ◌*◌, ◌-◌, ◌%◌, ◌^◌, ◌<◌, ◌≤◌, List, [], ◌∷◌, ◌++◌, drop, Bool, true, false, codes, decimal, flat_map, refl, ap, sym, ◌∙◌, arith, rules, append_assoc, if◌then◌else◌, nat_eq}
 use Rattle.std.specs.List.{All}
 use Rattle.std.specs.Str.{all_ascii_digits}
@@ -31,7 +31,7 @@ line-below (b ∷ bs) = by (nat_eq b 32)
 
 -- ---- digits
 
--- what digits say, behind those before
+-- the value of digits, after the number that was read before
 abbrev read_on : ℕ → List ℕ → ℕ
 read_on n [] = n
 read_on n (c ∷ cs) = read_on (10 * n + (c - 48)) cs
@@ -64,7 +64,7 @@ no-space d h = ne_eqb d 32 (λ is. absurd (false-is (sym (ap is_ascii_digit is) 
 small-mod : (n : ℕ) → n < 2 ^ 32 → n % 2 ^ 32 ≡ n
 small-mod n h = omega (arith, h)
 
--- digits are read as what they say, where that has 32 bits
+-- digits are read as their value, if it has 32 bits
 digits-read : (ds rest : List ℕ) (m : ℕ) → all_ascii_digits ds ≡ true → read_on m ds < 2 ^ 32 → read_from m (ds ++ rest) ≡ read_from (read_on m ds) rest
 digits-read [] rest m h small = refl
 digits-read (d ∷ ds) rest m h small =
@@ -84,7 +84,7 @@ number-read n rest small =
 
 -- ---- orders
 
--- numbers, with a space before each but the first, and an LF behind them
+-- numbers, with a space before each but the first, and an LF after them
 numbers-read : (order rest : List ℕ) (n : ℕ) → n < 2 ^ 32 → All (λ k. k < 2 ^ 32) order → read_from n (flat_map number order ++ (10 ∷ rest)) ≡ n ∷ order
 numbers-read [] rest n small all = refl
 numbers-read (k ∷ order) rest n small all =
@@ -94,7 +94,7 @@ numbers-read (k ∷ order) rest n small all =
     ∙ number-read k (flat_map number order ++ (10 ∷ rest)) fits
     ∙ numbers-read order rest k fits (All-tail (λ k. k < 2 ^ 32) k order all))
 
--- what stands behind the word of a line
+-- the text after the keyword of a line
 order-read : (order rest : List ℕ) → All (λ k. k < 2 ^ 32) order → read_line (flat_map number order ++ (10 ∷ rest)) ≡ order
 order-read [] rest all = refl
 order-read (n ∷ order) rest all =
@@ -103,12 +103,12 @@ order-read (n ∷ order) rest all =
     ∙ number-read n (flat_map number order ++ (10 ∷ rest)) fits
     ∙ numbers-read order rest n fits (All-tail (λ k. k < 2 ^ 32) n order all)
 
--- a first line is its word and the numbers behind it
+-- a first line is its keyword and the numbers after it
 line-parts : (order rest : List ℕ) → line_of order ++ rest ≡ codes "order" ++ (flat_map number order ++ (10 ∷ rest))
 line-parts order rest =
     append_assoc (codes "order") (flat_map number order ++ (10 ∷ [])) rest
     ∙ ap (λ (xs : List ℕ). codes "order" ++ xs) (append_assoc (flat_map number order) (10 ∷ []) rest)
 
--- the order that a first line tells is read of it
+-- the order of a first line is read from it
 pub told-read : (text order : List ℕ) → All (λ k. k < 2 ^ 32) order → Tells text order → read_line (drop 5 text) ≡ order
 told-read text order all (rest, is) = ap (λ (xs : List ℕ). read_line (drop 5 xs)) (is ∙ line-parts order rest) ∙ order-read order rest all

@@ -1,4 +1,4 @@
--- A difference stands behind the longest front that two texts have in common.
+-- Two texts differ first after their longest common front.
 use Rattle.std.proofs.Common.{◌≡◌, ℕ, ◌+◌, List, [], ◌∷◌, ◌++◌, Bool, true, false, Option, None, Some, is_some, refl, ap, sym, ◌∙◌, arith, if◌then◌else◌, nat_eq}
 use Rattle.std.specs.Prelude.{unwrap_or}
 use Rattle.std.proofs.lemmas.Bool.{eq-eqb, eqb-false, eqb-true, ne_eqb, true≢false}
@@ -10,7 +10,7 @@ next line x = if nat_eq x 10 then line + 1 else line
 abbrev differ_by : ℕ → ℕ → List ℕ → List ℕ → Bool → Option ℕ
 differ_by line x xs ys b = if b then difference (next line x) xs ys else Some line
 
--- the line behind a byte
+-- the number of the line after a byte
 behind : (line x more : ℕ) → next line x + more ≡ line + ((if nat_eq x 10 then 1 else 0) + more)
 behind line x more = elim (nat_eq x 10) as (λ b. (if b then line + 1 else line) + more ≡ line + ((if b then 1 else 0) + more)) [ true ↦ omega arith | false ↦ omega arith ]
 
@@ -41,7 +41,7 @@ none line (x ∷ xs) = ap (differ_by line x xs xs) (eq-eqb x x refl) ∙ none (n
 
 -- ---- others
 
--- behind so many lines
+-- two texts with a common front, and the line `found` at its end; the texts start at `line`
 record Parting (xs : List ℕ) (ys : List ℕ) (line : ℕ) (found : ℕ) : Type 0 where
   front : List ℕ
   rest : List ℕ

@@ -1,4 +1,4 @@
--- An order is told just where its line begins the text.
+-- A text has an order exactly if it starts with the line of this order.
 use Rattle.std.proofs.Common.{◌≡◌, ℕ, ◌<◌, ◌^◌, List, [], ◌∷◌, ◌++◌, drop, length, Bool, true, false, Option, None, Some, is_some, refl, ap, sym, ◌∙◌, subst, if◌then◌else◌, nat_eq}
 use Rattle.std.specs.List.{All, starts_with}
 use Rattle.std.specs.Prelude.{unwrap_or}
@@ -15,7 +15,7 @@ begins text = starts_with nat_eq text (line_of (numbers_in text))
 abbrev told_by : List ℕ → Bool → Option (List ℕ)
 told_by text b = if b then Some (numbers_in text) else None
 
--- what was found of a line that was written
+-- the result for a line that was written
 pub told-as : (text order line : List ℕ) (found : Bool) → order ≡ numbers_in text → line ≡ line_of order → found ≡ starts_with nat_eq text line
     → told_order text ≡ (if found then Some order else None)
 told-as text order line found read written tested =

@@ -1,4 +1,4 @@
--- What a client that comes or leaves does to the slots.
+-- The slots when a client registers or unregisters.
 use Rattle.std.proofs.Common.{◌≡◌, ℕ, zero, suc, ◌+◌, ◌<◌, ◌≤◌, Bool, true, false, not, ◌||◌, List, [], ◌∷◌, ◌++◌, Option, Some, None, length, take, refl, ap, sym, ◌∙◌, cond, add-one, arith, filter, if◌then◌else◌, nat_eq, slice_get, get_or, unwrap_or}
 use Rattle.std.specs.Prelude.{is_some}
 use Rattle.std.specs.BTreeMap.{is_at}
@@ -49,7 +49,7 @@ slot-past [] i h = refl
 slot-past (s ∷ slots) zero h = absurd (omega (arith, h))
 slot-past (s ∷ slots) (suc i) h = slot-past slots i (omega (arith, h))
 
--- who stands in it
+-- the client in it
 abbrev pub who : Option ℕ → List ℕ
 who None = []
 who (Some c) = c ∷ []
@@ -65,7 +65,7 @@ take-suc (Some c ∷ slots) (suc i) = ap (λ l. c ∷ l) (take-suc slots i)
 pub take-slot : (slots : Slots) (i : ℕ) → clients_in (take (i + 1) slots) ≡ clients_in (take i slots) ++ who (in_slot slots i)
 take-slot slots i = ap (λ n. clients_in (take n slots)) (add-one i) ∙ take-suc slots i
 
--- what stands at a slot that only gaps precede
+-- the client at a slot with only gaps before it
 pub first-is : (slots : Slots) (i c : ℕ) → in_slot slots i ≡ Some c → clients_in (take i slots) ≡ [] → slice_get (clients_in slots) 0 ≡ Some c
 first-is [] i c e none = cc
 first-is (None ∷ slots) zero c e none = cc
@@ -117,7 +117,7 @@ take-but slots c i =
 pub other-is : (slots : Slots) (c i d : ℕ) → but c (in_slot slots i) ≡ Some d → filter (λ k. not (nat_eq c k)) (clients_in (take i slots)) ≡ [] → slice_get (filter (λ k. not (nat_eq c k)) (clients_in slots)) 0 ≡ Some d
 other-is slots c i d e none = let is = but-is c d (in_slot slots i) e in first-but-is (λ k. not (nat_eq c k)) slots i d is.0 is.1 none
 
--- gaps alone
+-- only gaps
 pub all-gaps : (slots : Slots) (i : ℕ) → length slots ≤ i → clients_in (take i slots) ≡ clients_in slots
 all-gaps slots i h = ap clients_in (take_all i slots h)
 
@@ -143,7 +143,7 @@ absent (Some d ∷ slots) c none =
       | false ↦ λ e. absent slots c (λ i. none (suc i))
     ] refl
 
--- who does not stand there is not taken out
+-- a client that is not in the slots is not removed
 filter-absent : (slots : Slots) (c : ℕ) → ((i : ℕ) → in_slot slots i ≡ Some c → ⊥) → clients_in slots ≡ filter (λ k. not (nat_eq c k)) (clients_in slots)
 filter-absent [] c none = refl
 filter-absent (None ∷ slots) c none = filter-absent slots c (λ i. none (suc i))
@@ -185,7 +185,7 @@ module _ (slots : Slots) (places : List (ℕ × ℕ)) (first : ℕ) (is : IsPlac
       by (Some c) e = let h = slot-within slots first c e in omega (arith, h)
       by None e = let h = is.ends e in omega (arith, h)
 
--- ---- a client leaves
+-- ---- a client unregisters
 
 gap-at : (slots : Slots) (i j : ℕ) → i < length slots → in_slot (set slots i None) j ≡ (if nat_eq i j then None else in_slot slots j)
 gap-at [] i j h = absurd (omega (arith, h))
@@ -271,7 +271,7 @@ module _ (slots : Slots) (places later : List (ℕ × ℕ)) (first c i : ℕ) (i
               let no : true ≡ false = sym (own i) ∙ ap (nat_eq i) (sym at) ∙ away in cc
           other false apart stood = ap (λ b. cond b None (lookup (is_at (nat_cmp k)) places)) (at-client c k ∙ apart) ∙ is.noted k j stood
 
--- ---- a client comes
+-- ---- a client registers
 
 pub clients-append : (slots more : Slots) → clients_in (slots ++ more) ≡ clients_in slots ++ clients_in more
 clients-append [] more = refl

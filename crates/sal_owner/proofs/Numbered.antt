@@ -153,7 +153,7 @@ module _ (p : ℕ → Shift → Bool) where
           picked-at from n (n - from) (drop from shifts) at ∙ ap (passes n) (get-drop from (n - from) shifts) ∙ ap (λ k. passes n (slice_get shifts k)) (sym at)
       by false e = let lt : n < from = grind (arith, nat_tests, e) in early from n (drop from shifts) lt
 
--- ---- what is noted of each kind
+-- ---- the shifts of each kind
 
 pub numbered-more : (shifts : List Shift) (s : Shift) (n : ℕ) (numbers later : List (Text × List ℕ)) → n ≡ length shifts → IsNumbered shifts numbers
     → ((k : Text) → numbers_at later k ≡ (if is_at (text_cmp s.entity.kind) k then numbers_at numbers s.entity.kind ++ n ∷ [] else numbers_at numbers k)) → IsNumbered (shifts ++ s ∷ []) later
@@ -300,7 +300,7 @@ pub same-due : (due : Due) (ns : List ℕ) → T (is_sorted nat_cmp (units ns)) 
 same-due due ns rise sorted same_numbers =
     same_entries nat_cmp nat_cmp_total nat_cmp-IsAntisymmetric due (units ns) (sorted-from due sorted) rise (λ n. same-unit (find nat_cmp n due) (find nat_cmp n (units ns)) (same_numbers n ∙ sym (find-units n ns)))
 
--- ---- what a client sees of them
+-- ---- the ones that a client sees
 
 module _ (kinds : List (Text × ℕ)) (c : ℕ) where
   over-append : (shifts : List Shift) (ns : List ℕ) (list : List OwnerChange) → told_over c shifts list (units ns) ≡ list ++ told_over c shifts [] (units ns)

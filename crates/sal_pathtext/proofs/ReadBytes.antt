@@ -1,4 +1,4 @@
--- What is read from a text of bytes is bytes.
+-- Texts read from a text of bytes are bytes.
 use Rattle.std.proofs.Common.{◌≡◌, ℕ, zero, suc, ◌+◌, ◌<◌, true, false, not, ◌==◌, [], ◌∷◌, take, drop, Some, None, Ok, if◌then◌else◌, subst, arith}
 use Rattle.std.specs.Prelude.{⊤}
 use Rattle.std.specs.List.{list_any, prefix_len, position_or_len, before_first, after_first}
@@ -40,7 +40,7 @@ abbrev pub AreBytes : Text × Text → Type 0
 AreBytes p = Bytes p.0 × Bytes p.1
 
 module _ (whole : Text) where
-  -- ---- what follows a word
+  -- ---- the text after a word
 
   pub expected-rest : (c : ℕ) (t rest : Text) → Bytes t → expected whole c t ≡ Ok rest → Bytes rest
   expected-rest c t rest is e = elim (first t == c) as (λ b. (if b then Ok (drop 1 t) else bad_text whole t) ≡ Ok rest → Bytes rest) [
@@ -65,7 +65,7 @@ module _ (whole : Text) where
         | false ↦ λ e2. subst (λ (q : Name × Text). Bytes q.1) (same_ok ((None, one.0), one.1) p e2) after
       ] e1)
 
-  -- ---- what is in quotes, and what follows
+  -- ---- the content of quotes, and the text after it
 
   single-bytes : (t : Text) (p : Text × Text) → Bytes t → single whole t ≡ Ok p → AreBytes p
   unfolding single

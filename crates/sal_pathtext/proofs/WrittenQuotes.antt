@@ -1,4 +1,4 @@
--- What is written in quotes reads as what was written.
+-- A text written in quotes reads as the same text.
 use Rattle.std.proofs.Common.{◌≡◌, ℕ, suc, ◌+◌, Bool, true, false, not, ◌==◌, [], ◌∷◌, ◌++◌, length, take, drop, Ok, if◌then◌else◌, refl, sym, ap, ◌∙◌, inl, inr, arith, append_assoc}
 use Rattle.std.specs.Prelude.{◌||◌}
 use Rattle.std.specs.List.{list_any, position_or_len, before_first, after_first}
@@ -105,7 +105,7 @@ begins t rest false d = refl
 begins t rest true false = refl
 begins t rest true true = refl
 
--- ---- what a predicate says
+-- ---- the content of a predicate
 
 pub said-again : (whole t rest : Text) → said whole ((61 ∷ in_quotes t ++ 93 ∷ []) ++ rest) ≡ Ok (t, 93 ∷ rest)
 unfolding said

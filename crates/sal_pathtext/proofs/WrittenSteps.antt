@@ -33,7 +33,7 @@ use Rattle.sal_pathtext.proofs.WrittenEntries.{givens, list_has_keys, free-nil, 
 use Rattle.sal_json.proofs.Chosen.{same_ok}
 
 module _ (table : SchemaTable) where
-  -- ---- where a text continues
+  -- ---- the rest of a text
 
   -- the path does not begin with a message at the top
   abbrev pub starts : Option ℕ → List Step → Bool

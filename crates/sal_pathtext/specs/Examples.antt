@@ -1,4 +1,4 @@
--- A schema and words for the examples.
+-- A schema and names for the examples.
 use Rattle.std.specs.Prelude.{ℕ, zero, suc, ◌+◌, true, false, List as Row, [], ◌∷◌, ◌++◌, Option, Some, None, Result, codes}
 use Prim.Native.String.{String}
 use Rattle.sal_types.specs.declared.value.Atom.{Atom}
@@ -57,12 +57,12 @@ chain k parent (suc n) = info parent (Container false) 0 (codes "c") (Some true)
 abbrev pub deep : SchemaTable
 deep = record { nodes = chain 0 None 33; types = []; modules = codes "m" ∷ []; identities = [] }
 
--- the name of so many of them
+-- the names of n of them
 abbrev pub names : ℕ → Row ℕ
 names zero = []
 names (suc n) = codes "/c" ++ names n
 
--- the steps to so many of them, from this one on
+-- the steps to n of them, from this one on
 abbrev pub down_from : ℕ → ℕ → Row Step
 down_from k zero = []
 down_from k (suc n) = Node k ∷ down_from (k + 1) n

@@ -1,4 +1,4 @@
--- What holds of texts of paths: they read back.
+-- Laws of texts of paths: they read back.
 use Rattle.std.specs.Prelude.{◌≡◌, ℕ, Bool, true, not, ◌≤◌, List, [], ◌∷◌, length, Option, None, Ok, IfSome, ⊤}
 use Rattle.base64.specs.GeneralPurpose.{IsBytes}
 use Rattle.sal_types.specs.declared.value.Value.{Value}
@@ -59,7 +59,7 @@ WrittenReads =
     (table : SchemaTable) → IsTable table → (path : List Step) → IsDataPath table path → IsReadablePath table path
     → read_path table (written table path) ≡ Ok path
 
--- Two such paths that are written alike are one path.
+-- Two such paths with one text are equal.
 abbrev pub WrittenApart : Type 0
 WrittenApart =
     (table : SchemaTable) → IsTable table → (path other : List Step) → IsDataPath table path → IsDataPath table other
@@ -69,13 +69,13 @@ WrittenApart =
 abbrev pub ReadIsData : Type 0
 ReadIsData = (table : SchemaTable) → IsTable table → (text : List ℕ) (path : List Step) → read_path table text ≡ Ok path → IsDataPath table path
 
--- All values of a path that was read from a text of bytes are readable: what is written for each reads as it.
+-- All values of a path that was read from a text of bytes are readable: the text of each reads as it.
 abbrev pub ReadIsReadable : Type 0
 ReadIsReadable =
     (table : SchemaTable) → IsTable table → (text : List ℕ) (path : List Step) → IsBytes text → read_path table text ≡ Ok path
     → IsReadablePath table path
 
--- What was read from a text of bytes, then written and read again, is the same path.
+-- A path that was read from a text of bytes, then written and read again, is the same path.
 abbrev pub ReadsAgain : Type 0
 ReadsAgain =
     (table : SchemaTable) → IsTable table → (text : List ℕ) (path : List Step) → IsBytes text → read_path table text ≡ Ok path

@@ -1,4 +1,4 @@
--- Which node a name means, and which values identify the entries of lists and leaf-lists.
+-- The nodes of names, and which values identify the entries of lists and leaf-lists.
 use Rattle.std.specs.Prelude.{ℕ, Bool, ◌==◌, List, [], ◌∷◌, Option, Some, None, option_map, option_and_then, find, Result, Err, if◌then◌else◌}
 use Rattle.std.specs.List.{list_any}
 use Rattle.std.specs.Option.{option_map_or}
@@ -21,7 +21,7 @@ use Rattle.sal_pathtext.specs.Words.{Name}
 abbrev pub is_for : ℕ → Given → Bool
 is_for leaf given = given.leaf == leaf
 
--- the value that a leaf was given
+-- the value of a leaf
 abbrev pub value_given : List Given → ℕ → Option Value
 value_given given leaf = option_map (λ (one : Given). one.value) (find (is_for leaf) given)
 
@@ -29,18 +29,18 @@ abbrev pub with_value : Value → Option (List Value) → Option (List Value)
 with_value value None = None
 with_value value (Some values) = Some (value ∷ values)
 
--- the values that these leafs were given, where each was given one
+-- the values of these leafs, if each has one
 abbrev pub values_given : List Given → List ℕ → Option (List Value)
 values_given given [] = Some []
 values_given given (leaf ∷ leafs) = option_and_then (λ value. with_value value (values_given given leafs)) (value_given given leaf)
 
--- the leaf that a predicate is about, where it has not been given a value before
+-- the leaf of a predicate, if it has no value yet
 abbrev pub not_given : List Given → Option ℕ → Option ℕ
 not_given given None = None
 not_given given (Some leaf) = if list_any (is_for leaf) given then None else Some leaf
 
 module _ (table : SchemaTable) where
-  -- The node for data that a name means, below a node or at the top. A name at the top has its module, and one below a node
+  -- The data node of a name, below a node or at the top. A name at the top has its module, and one below a node
   -- exactly if its module differs from that node's.
   abbrev pub meant : Option ℕ → Name → Option ℕ
   meant None (None, name) = None
@@ -50,18 +50,18 @@ module _ (table : SchemaTable) where
 
   -- ---- entries
 
-  -- what `.` means in a predicate: a leaf-list itself
+  -- the node of `.` in a predicate: a leaf-list itself
   abbrev pub dot_meant : ℕ → Option ℕ
   dot_meant n = if is_kind is_leaf_list table n then Some n else None
 
   abbrev pub if_key : ℕ → ℕ → Option ℕ
   if_key n leaf = if is_among leaf (keys_of table n) then Some leaf else None
 
-  -- what a name means in a predicate: a key of the list
+  -- the node of a name in a predicate: a key of the list
   abbrev pub key_meant : ℕ → Name → Option ℕ
   key_meant n name = option_and_then (if_key n) (meant (Some n) name)
 
-  -- the step to the entry with the values that were given: that of a leaf-list, or those of all keys of a list in order
+  -- the step to the entry with these values: that of a leaf-list, or those of all keys of a list in order
   abbrev pub entry_given : ℕ → List Given → Option Step
   entry_given n given =
       if is_kind is_leaf_list table n then option_map Item (value_given given n) else option_map Key (values_given given (keys_of table n))

@@ -1,4 +1,4 @@
--- From a text to the path that it denotes, or to the first fault from the left with its place. A fault counts as soon as
+-- From a text to the path that it denotes, or to the first fault from the left with its offset. A fault is found as soon as
 -- the text up to there shows it.
 use Rattle.std.specs.Prelude.{ℕ, zero, suc, Bool, false, ◌&&◌, ◌==◌, List, [], ◌∷◌, ◌++◌, length, drop, Option, Some, None, Result, Ok, Err, if◌then◌else◌}
 use Rattle.std.specs.Option.{option_map_or}
@@ -30,7 +30,7 @@ abbrev pub taken : ℕ → Result Value ScalarFault → Result Value PathTextFau
 taken at (Ok value) = Ok value
 taken at (Err fault) = Err (BadPredicate at)
 
--- what is there, or this fault
+-- the value, or this fault if there is none
 abbrev pub found : {X : Type 0} → PathTextFault → Option X → Result X PathTextFault
 found fault (Some x) = Ok x
 found fault None = Err fault
@@ -64,7 +64,7 @@ module _ (table : SchemaTable) (whole : Text) where
     end ← closed whole rest
     Ok (record { leaf = leaf; value = value }, end)
 
-  -- All predicates from here on, at most so many. The length of the text is always enough.
+  -- All predicates from here on, at most n. The length of the text is always enough.
   unfoldable pub predicates : ℕ → ℕ → List Given → Text → Read (List Given)
   predicates zero n given t = Ok (given, t)
   predicates (suc most) n given t =
@@ -97,7 +97,7 @@ module _ (table : SchemaTable) (whole : Text) where
   abbrev pub step : Here → Text → Result (Step × Here × Text) PathTextFault
   step here t = if first t == 91 then entered here t else if first t == 47 then named here (drop 1 t) else bad_text whole t
 
-  -- what would be a step too many: the first predicate of an entry, or a name
+  -- the fault of a step too many: the first predicate of an entry, or a name
   abbrev pub one_entry_more : Here → Text → Result (List Step) PathTextFault
   one_entry_more here t = do
     n ← found (BadPredicate (place whole t)) here.node
@@ -107,7 +107,7 @@ module _ (table : SchemaTable) (whole : Text) where
   unfoldable pub one_more : Here → Text → Result (List Step) PathTextFault
   one_more here t = if first t == 91 && here.wants_entry then one_entry_more here t else (step here t >>= λ past. Err TooDeep)
 
-  -- the steps from here on, of which so many have room
+  -- the steps from here on, at most `room` of them
   unfoldable pub steps : ℕ → Here → Text → Result (List Step) PathTextFault
   steps zero here t = if is_empty t then Ok [] else one_more here t
   steps (suc room) here t =
@@ -124,6 +124,6 @@ module _ (table : SchemaTable) (whole : Text) where
 unfoldable pub read_path : SchemaTable → Text → Result (List Step) PathTextFault
 read_path table whole = path table whole
 
--- What a function returned, seen by view, is what the definition gives, unless memory ran out.
+-- The result, seen by `view`, equals the definition's value or fault, unless memory ran out.
 abbrev pub Gives : {X Y : Type 0} → (X → Y) → Result X PathTextFault → Result Y PathTextFault → Type 0
 Gives = GivesUnless NoMemory

@@ -1,5 +1,5 @@
--- The words of a path text: names, blanks and texts in quotes. A definition takes what is still to read, and gives what it read
--- and the text after it. The place of a fault is how many bytes of the whole text are before what is left.
+-- The tokens of a path text: names, blanks and texts in quotes. A definition takes the remaining text, and gives what it read
+-- and the text after it. The offset of a fault is the length of the whole text minus that of the remaining text.
 use Rattle.std.specs.Prelude.{ℕ, ◌-◌, Bool, not, ◌||◌, ◌==◌, if◌then◌else◌, List, [], ◌∷◌, length, take, drop, slice_index, Option, Some, None, Result, Ok, Err}
 use Rattle.std.specs.List.{list_any, prefix_len, before_first, after_first}
 use Rattle.sal_types.specs.Reading.{◌>>=◌, with_front}
@@ -12,7 +12,7 @@ pub use Rattle.sal_json.specs.Patterns.{Text}
 abbrev pub Read : Type 0 → Type 0
 Read A = Result (A × Text) PathTextFault
 
--- a name: its module, if the text has it, and what follows
+-- a name: its module, if the text has it, and the identifier
 abbrev pub Name : Type 0
 Name = Option (List ℕ) × List ℕ
 
@@ -31,7 +31,7 @@ is_blank c = c == 32 || c == 9
 abbrev pub after_blanks : Text → Text
 after_blanks t = drop (prefix_len is_blank t) t
 
--- how long the identifier at the front is, where one begins there (RFC 7950 section 6.2)
+-- the length of the identifier at the front, if one begins there (RFC 7950 section 6.2)
 abbrev pub word_len : Text → ℕ
 word_len t = prefix_len goes_on t
 
@@ -39,7 +39,7 @@ abbrev pub is_double_quote : ℕ → Bool
 is_double_quote c = c == 34
 
 module _ (whole : Text) where
-  -- how many bytes are before what is still to read
+  -- the byte offset of the remaining text
   abbrev pub place : Text → ℕ
   place t = length whole - length t
 
@@ -62,7 +62,7 @@ module _ (whole : Text) where
       Ok ((Some word, own), rest))
         else Ok ((None, word), after)
 
-  -- the text before the closing single quote, where two such quotes denote one
+  -- the text before the closing single quote; two such quotes denote one
   unfoldable pub single : Text → Read (List ℕ)
   single [] = bad_text []
   single (c ∷ []) = if c == 39 then Ok ([], []) else bad_text []
@@ -79,7 +79,7 @@ module _ (whole : Text) where
   abbrev pub quoted : Text → Read (List ℕ)
   quoted t = if first t == 39 then single (drop 1 t) else if first t == 34 then double (drop 1 t) else bad_text t
 
-  -- what a predicate says of a key: blanks, `=`, blanks and a text in quotes
+  -- the value of a predicate's key: blanks, `=`, blanks and a text in quotes
   unfoldable pub said : Text → Read (List ℕ)
   said t = expected 61 (after_blanks t) >>= λ value. quoted (after_blanks value)
 

@@ -27,7 +27,7 @@ in_quotes t =
     else if not (list_any is_double_quote t) then 34 ∷ t ++ 34 ∷ []
     else 39 ∷ doubled t ++ 39 ∷ []
 
--- the node below which the next step is
+-- the parent of the next step
 abbrev pub behind : Option ℕ → Step → Option ℕ
 behind here (Node n) = Some n
 behind here step = here
@@ -38,7 +38,7 @@ module _ (table : SchemaTable) where
   name_text None n = full_name table n
   name_text (Some p) n = if text_eq (own_module table n) (own_module table p) then name_of table n else full_name table n
 
-  -- what a predicate says of the value, and its end
+  -- a value in a predicate, and the predicate's end
   abbrev pub said_text : ℕ → Value → List ℕ
   said_text leaf value = 61 ∷ in_quotes (value_text table leaf value) ++ 93 ∷ []
 

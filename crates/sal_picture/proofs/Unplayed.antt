@@ -1,4 +1,4 @@
--- What comes of a play that failed.
+-- The status of a play that failed.
 use Rattle.std.proofs.Common.{◌≡◌, ℕ, List, Result, Err, ap, sym, subst}
 use Rattle.sal_history.specs.World.{Domain}
 use Rattle.sal_script.specs.Moves.{Move}

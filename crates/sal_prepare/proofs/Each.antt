@@ -36,7 +36,7 @@ module _ {A B : Type 0} (make : ℕ → A → Result B Status) (xs : List A) (do
       → before new (each_from make (i + 1) (drop (i + 1) xs)) ≡ total
   goes total new made so_far = sym (ap (λ (r : Result (List B) Status). r >>= (λ more. before more (each_from make (i + 1) (drop (i + 1) xs)))) made) ∙ sym turn ∙ so_far
 
-  -- it is not, and so all are not
+  -- it fails, and so all fail
   pub stops : (total : Result (List B) Status) (e : Status) → IsStatusOf (with_next done (make i x)) e → before done (each_from make i (drop i xs)) ≡ total → IsStatusOf total e
   stops total NoMemory fault so_far = tt
   stops total (BadScript place) fault so_far = sym so_far ∙ turn ∙ ap (λ (r : Result (List B) Status). r >>= (λ more. before more (each_from make (i + 1) (drop (i + 1) xs)))) fault
@@ -57,7 +57,7 @@ pub before_none : {B F : Type 0} (rest : Result (List B) F) → before [] rest �
 before_none (Ok more) = refl
 before_none (Err e) = refl
 
--- as many are made as there are
+-- as many are made as there are elements
 pub each_long : {A B : Type 0} (make : ℕ → A → Result B Status) (n : ℕ) (xs : List A) (ys : List B) → each_from make n xs ≡ Ok ys → length ys ≡ length xs
 each_long make n [] ys made = sym (ap length (same_ok made))
 each_long make n (x ∷ xs) ys made =
@@ -70,7 +70,7 @@ pub comes_err : {A X : Type 0} (seen : X → A) (made : Result A Status) (result
 comes_err seen made (Ok x) e is fault = absurd is
 comes_err seen made (Err d) e is fault = subst (IsStatusOf made) (sym is) fault
 
--- what fails has no further result
+-- after a fault there is no further result
 pub bind_fault : {A B : Type 0} (r : Result A Status) (f : A → Result B Status) (e : Status) → IsStatusOf r e → IsStatusOf (r >>= f) e
 bind_fault r f NoMemory fault = tt
 bind_fault r f (BadScript place) fault = ap (λ made. made >>= f) fault
@@ -86,7 +86,7 @@ bind_fault r f NoPart fault = absurd fault
 bind_fault r f (BadStream text) fault = absurd fault
 bind_fault r f (BadExport commit) fault = absurd fault
 
--- what fails makes no more
+-- after a fault no more are made
 pub with_fault : {A : Type 0} (done : List A) (next : Result A Status) (e : Status) → IsStatusOf next e → IsStatusOf (with_next done next) e
 with_fault done next NoMemory fault = tt
 with_fault done next (BadScript place) fault = ap (with_next done) fault
@@ -102,7 +102,7 @@ with_fault done next NoPart fault = absurd fault
 with_fault done next (BadStream text) fault = absurd fault
 with_fault done next (BadExport commit) fault = absurd fault
 
--- what a domain's modules build is made by them
+-- the schema of a domain's modules is made from them
 pub schema-ok : {A : Type 0} (n : ℕ) (made : Result A (List ℕ)) (x : A) → or_schema n made ≡ Ok x → made ≡ Ok x
 schema-ok n (Ok y) x e = cc
 schema-ok n (Err text) x e = cc

@@ -37,11 +37,11 @@ found_from (t ∷ ts) k (suc v) is none =
 
 -- ---- those of all domains
 
--- those of the first of some domains, and then of the others
+-- those of the first domains, and then of the others
 abbrev next : Option ℕ → ℕ → List SchemaTable → Result (List (List SchemaTable)) Status → Result (List (List SchemaTable)) Status
 next o n versions rest = or_unformed n versions o >>= (λ first. rest >>= (λ more. Ok (first ∷ more)))
 
--- where no pattern is malformed, all versions are kept
+-- if no pattern is malformed, all versions are kept
 pub all_formed : (tables : List (List SchemaTable)) (n : ℕ) → list_any are_malformed tables ≡ false → each_from if_formed n tables ≡ Ok tables
 all_formed [] n none = refl
 all_formed (versions ∷ ts) n none =

@@ -68,7 +68,7 @@ first_unformed tables v table NoPart at none told = absurd told
 first_unformed tables v table (BadStream text) at none told = absurd told
 first_unformed tables v table (BadExport commit) at none told = absurd told
 
--- where the last one is well formed, all are
+-- if the last one is well formed, all are
 pub older_well : (tables : List SchemaTable) → AreInOrder tables → is_malformed (last_among tables) ≡ false → list_any is_malformed tables ≡ false
 older_well [] order last = refl
 older_well (t ∷ []) order last = ap (λ b. b || false) last
@@ -81,7 +81,7 @@ older_well (t ∷ next ∷ more) order last =
     first_of true b e = cc
     first_of false b e = refl
 
--- where all are well formed, they are the versions
+-- if all are well formed, they are the versions
 pub all_well : (tables : List SchemaTable) → list_any is_malformed tables ≡ false → if_formed 0 tables ≡ Ok tables
 all_well tables none = ap (or_unformed 0 tables) (none_from tables 0 none)
 
@@ -114,7 +114,7 @@ all_go_on versions i s last at none well =
     let long : length (tables_in versions) ≡ length versions = length-map versions (λ (x : Shared). x.value) in
     all_well (tables_in versions) (subst (λ (ts : List SchemaTable). list_any is_malformed ts ≡ false) (take_all (i + 1) (tables_in versions) (omega (arith, long, last))) all)
 
--- what comes of the last one comes of all
+-- a result of the last one is a result of all
 pub comes_last : {X : Type 0} (versions : List Shared) (i : ℕ) (s : Shared) (r : Result X Status) → i + 1 ≡ length versions → s ≡ get_or versions i s → list_any is_malformed (take i (tables_in versions)) ≡ false
     → IfOk r (λ x. is_malformed s.value ≡ false) → IfErr r (IsUnformedBy i s.value) → Comes (λ x. tables_in versions) (if_formed 0 (tables_in versions)) r
 comes_last versions i s (Ok x) last at none well bad = all_go_on versions i s last at none well

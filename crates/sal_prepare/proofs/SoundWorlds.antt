@@ -1,4 +1,4 @@
--- What is read as an opening is closed.
+-- Trees read from an opening are closed.
 use Rattle.std.proofs.Common.{◌≡◌, ◌&&◌, ℕ, ◌+◌, ◌<◌, ◌≤◌, zero, suc, List, [], ◌∷◌, length, map, Option, None, Some, Result, Ok, Err, refl, ap, sym, ◌∙◌, subst, arith, IsTrue}
 use Rattle.std.specs.Prelude.{All, slice_get, unwrap_or}
 use Rattle.std.proofs.lemmas.Bool.{and_parts}
@@ -145,7 +145,7 @@ module _ (reads : ReadsWhole) where
           opening = closed;
         })
 
-    -- those from number n on
+    -- the domains from number n on
     pub all_sound : (rules : Rules) (n : ℕ) (xs : List DeviceParts) (ds : List Domain) → n + length xs ≤ length tables → AreJsonDevices xs → each_from (opening_by rules tables) n xs ≡ Ok ds → AreSound ds
     all_sound rules n [] ds room json made = subst AreSound (same_ok made) (λ k d at. absurd (none-some d at))
     all_sound rules n (x ∷ xs) ds room json made =
@@ -168,7 +168,7 @@ module _ (reads : ReadsWhole) where
       unrefused ds None e = same_ok e
       unrefused ds (Some fault) e = cc
 
--- the same of the devices that the world is of
+-- the same for the devices of the world
 pub closed_devices : (rules : Rules) (devices : List Device) → AreSound (world_of rules devices) → AreClosedDevices devices
 closed_devices rules [] sound = tt
 closed_devices rules (device ∷ devices) sound =

@@ -8,7 +8,7 @@ use Rattle.sal_prepare.specs.Scripted.{IsStatusOf}
 pub same_fault : {A : Type 0} {d e : Status} → (let r : Result A Status = Err d in r) ≡ Err e → d ≡ e
 same_fault is = cc
 
--- what fails with the status of another
+-- a result that fails with the status of another one
 pub fails_as : (A : Type 0) {B : Type 0} (made : Result B Status) (e status : Status) → made ≡ Err e → IsStatusOf (let r : Result A Status = Err e in r) status → IsStatusOf made status
 fails_as A made e NoMemory is fault = tt
 fails_as A made e (BadScript place) is fault = is ∙ ap Err (same_fault fault)
@@ -24,6 +24,6 @@ fails_as A made e NoPart is fault = absurd fault
 fails_as A made e (BadStream text) is fault = absurd fault
 fails_as A made e (BadExport commit) is fault = absurd fault
 
--- what is made is one value
+-- a result has one value
 pub same_made : {A : Type 0} (made : Result A Status) (x y : A) → made ≡ Ok x → made ≡ Ok y → x ≡ y
 same_made made x y one other = cc

@@ -6,7 +6,7 @@ use Rattle.sal_prepare.specs.declared.status.Status.TheVariants.{Done, BadWords,
 use Rattle.sal_prepare.specs.Scripted.{IsStatusOf}
 use Rattle.sal_prepare.specs.Texts.{IsTextStatus}
 
--- what fails ahead of a text
+-- a fault before a text
 pub text_fails : {A : Type 0} (made : Result A Status) (next : A → Result (List ℕ) Status) (status : Status) → IsStatusOf made status → IsTextStatus (made >>= next) status
 text_fails made next NoMemory fault = tt
 text_fails made next (BadScript place) fault = ap (λ r. r >>= next) fault

@@ -56,7 +56,7 @@ opened_with rules tables n x d made =
     let read = bind_ok (opening_trees n (first_among versions) x) (λ (o : Opening). Ok (domain_with rules versions o)) d made in
     subst (λ (y : Domain). y ≡ domain_with rules versions y.opening) (same_ok read.2) refl
 
--- and versions of which there is one are all that it has
+-- and a non-empty list of versions is the whole list
 versions_with : (rules : Rules) (versions : List SchemaTable) (d : Domain) → 1 ≤ length versions → d ≡ domain_with rules versions d.opening → (d.table ∷ d.upgrades) ≡ versions
 versions_with rules [] d some is = absurd (omega (arith, some))
 versions_with rules (t ∷ ts) d some is = ap (λ (y : Domain). y.table ∷ y.upgrades) is

@@ -23,7 +23,7 @@ use Rattle.sal_data.specs.Written.{runs_of, step_of, scalar_json, leaf_json, Wri
 use Rattle.sal_script.specs.BatchData.{leaf_data}
 use Rattle.sal_tree_text.proofs.Floats.{has_float-scalar, if_some, one_of}
 
--- ---- what is chosen among values without a float
+-- ---- a choice among values without a float
 
 neither : (a b : Bool) → a ≡ false → b ≡ false → (a || b) ≡ false
 neither a b p q = rw (p, q) refl
@@ -115,7 +115,7 @@ whole_at table path (Some (Item value)) rows = if_some (λ n. scalar_json table 
 pub has_float-write_data : (table : SchemaTable) (path : List Step) (rows : List Row) → has_float (write_data table path rows) ≡ false
 has_float-write_data table path rows = whole_at table path (last_step path) (under rows path)
 
--- and in none for a leaf
+-- and there is none for a leaf
 pub has_float-leaf_data : (table : SchemaTable) (step : Option Step) (value : Value) → has_float (leaf_data table step value) ≡ false
 has_float-leaf_data table None value = refl
 has_float-leaf_data table (Some (Node n)) value = has_float-scalar table n value

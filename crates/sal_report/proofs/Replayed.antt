@@ -35,7 +35,7 @@ was-same : (made : List Made) (m : Made) (d : ℕ) → mounts m.call m.reply ≡
 was-same made m d none = ap (λ (ms : List Mounted). list_any (λ (x : Mounted). nat_eq x.device d) ms) (mounted-same made m none)
 
 module _ {calls : List MountCall} {old new : Register} {marks : List Bool} (was : Follows calls old marks) where
-  -- a call that mounts nothing
+  -- a call that mounts no device
   pub unmoved : (call : MountCall) (reply : MountReply) → Makes old new call reply → mounts call reply ≡ None → Follows (calls ++ call ∷ []) new marks
   unmoved call reply makes none = record {
     register = makes.longer calls was.register;
@@ -65,7 +65,7 @@ module _ {calls : List MountCall} {old new : Register} {marks : List Bool} (was 
 
 -- ---- a log
 
--- before the first call nothing is marked
+-- before the first call no device is marked
 pub nothing_marked : (r : Register) (marks : List Bool) → IsOf [] r → length marks ≡ r.devices → ((d : ℕ) → d < length marks → slice_index_or marks d false ≡ false) → Follows [] r marks
 nothing_marked r marks register long none = record { register = register; long = long; each = none }
 
@@ -76,7 +76,7 @@ one_entry log i e r marks inside here follows = subst (λ (calls : List MountCal
 
 -- ---- the numbers of domains
 
--- the same numbers are filtered where the tests agree on them
+-- tests that agree on the numbers filter the same ones
 pub same_numbers : (p q : ℕ → Bool) (a n : ℕ) → ((d : ℕ) → d < a + n → p d ≡ q d) → filter p (range_with_len a n) ≡ filter q (range_with_len a n)
 same_numbers p q a zero agree = refl
 same_numbers p q a (suc n) agree =

@@ -20,7 +20,7 @@ step n c = 10 * n + (c - 48)
 one_more : (n d p x : ℕ) → (10 * n + d) * p + x ≡ n * (p * 10) + (d * p + x)
 one_more n d p x = omega arith
 
--- digits behind a number
+-- digits after a number
 pub fold-digits : (n : ℕ) (t : List ℕ) → fold step n t ≡ n * 10 ^ length t + decimal t
 fold-digits n [] = omega arith
 fold-digits n (c ∷ t) =
@@ -140,7 +140,7 @@ slice_cmp-decimal (c ∷ a) (d ∷ b) ea eb same =
     (decimal-below a rest) (decimal-below b others) (slice_cmp nat_cmp a b) (slice_cmp-decimal a b rest others same')
     (decimal (c ∷ a)) (decimal (d ∷ b)) (decimal-cons c a) (decimal-cons d b)
 
--- what stands behind a point is less than one
+-- the digits after a point are less than one
 pub units_below : (x k n : ℕ) → k ≤ n → x < 10 ^ k → x * 10 ^ (n - k) < 10 ^ n
 units_below x k n h less =
     let power : 10 ^ n ≡ 10 ^ k * 10 ^ (n - k) = ap (λ m. 10 ^ m) (omega arith) ∙ pow-add 10 k (n - k) in

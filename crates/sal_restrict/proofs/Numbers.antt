@@ -71,7 +71,7 @@ goes_on-from all numbers part held = elim (cases_Bool (int_le numbers.low part.h
   | inr e ↦ or_left _ _ (not_from_false _ e)
 ]
 
--- the number after one that is held is held too
+-- the number after a covered one is covered too
 next_held : (parts all : List Part) (numbers : Part) (n : ℤ) → numbers.low ≤ℤ n → n <ℤ numbers.high → list_all (goes_on all numbers) parts ≡ true
     → holds parts n ≡ true → (holds parts (n +ℤ pos 1) ≡ true) ⊎ (holds all (n +ℤ pos 1) ≡ true)
 next_held [] all numbers n low high goes held = cc
@@ -145,9 +145,9 @@ is_ascending-drop (suc n) (part ∷ parts) order = is_ascending-drop n parts (is
 pub holds-past : (part : Part) (parts : List Part) (n : ℤ) → part.high <ℤ n → holds (part ∷ parts) n ≡ holds parts n
 holds-past part parts n past = rw (is_in-past n part past) refl
 
--- ---- how far the numbers are held
+-- ---- up to which number the parts cover
 
--- The numbers before `next` are held, and from there on only the parts of `rest` count.
+-- The numbers before `next` are covered, and from `next` on only the parts of `rest` count.
 pub record IsHeldUpto (parts rest : List Part) (numbers : Part) (next : ℤ) : Type 0 where
   pub start : numbers.low ≤ℤ next
   pub stop : next ≤ℤ numbers.high

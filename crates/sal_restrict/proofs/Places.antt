@@ -1,4 +1,4 @@
--- Where a word stands, from one place to the next.
+-- The place of a word in a text, from one place to the next.
 use Rattle.std.proofs.Common.{◌≡◌, ℕ, suc, ◌+◌, ◌<◌, ◌≤◌, nat_eq, List, [], ◌∷◌, length, drop, if◌then◌else◌, refl, inl, inr, true, arith}
 use Rattle.std.proofs.lemmas.Bool.{cases_Bool, and_parts}
 use Rattle.std.proofs.lemmas.List.{drop_more}
@@ -16,7 +16,7 @@ place_of-within word (c ∷ t) = elim (cases_Bool (starts_with nat_eq (c ∷ t) 
   | inr e ↦ rw e (omega (arith, place_of-within word t))
 ]
 
--- a word stands in full
+-- a word fits in the text
 pub starts_with-fits : (t word : List ℕ) → starts_with nat_eq t word ≡ true → length word ≤ length t
 starts_with-fits t [] e = omega arith
 starts_with-fits [] (d ∷ word) e = cc

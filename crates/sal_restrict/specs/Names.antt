@@ -3,7 +3,7 @@ use Rattle.std.specs.Prelude.{ℕ, Bool, true, false, List, ◌==◌, if◌then�
 use Rattle.sal_restrict.specs.declared.yang_type.YangType.{YangType, out-YangType}
 use Rattle.sal_restrict.specs.declared.yang_type.YangType.TheOpen.{YangType-F}
 
--- of whole numbers with so many bits
+-- of whole numbers of this many bits
 abbrev pub int_name : ℕ → Bool → List ℕ
 int_name bits true = if bits == 8 then codes "int8" else if bits == 16 then codes "int16" else if bits == 32 then codes "int32" else codes "int64"
 int_name bits false = if bits == 8 then codes "uint8" else if bits == 16 then codes "uint16" else if bits == 32 then codes "uint32" else codes "uint64"

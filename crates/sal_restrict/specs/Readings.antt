@@ -1,4 +1,4 @@
--- Bounds as the code has them: a number of 128 bits, or the digits of one that is larger.
+-- Bounds in the code: a number of 128 bits, or the digits of a larger one.
 use Rattle.std.specs.Prelude.{◌≡◌, ℕ, ◌+◌, ◌*◌, ◌<◌, ℤ, Bool, true, false, ◌||◌, ◌==◌, List, map, drop, slice_index, IsTrue, FitsSigned}
 use Rattle.std.specs.Int.{w128}
 use Rattle.std.specs.Ordering.{nat_cmp}
@@ -12,21 +12,21 @@ use Rattle.sal_restrict.specs.declared.bound.Bound.TheVariants.{Small, Large}
 use Rattle.sal_restrict.specs.declared.span.Span.{Span}
 use Rattle.sal_restrict.specs.Bounds.{decimal, signed}
 
--- digits without the zeros at their front
+-- digits without leading zeros
 abbrev pub without_zeros : List ℕ → List ℕ
 without_zeros t = drop (prefix_len (λ c. c == 48) t) t
 
--- how many units it has, of which so many are a whole one
+-- the number in units, of which `scale` are one whole
 abbrev pub size_of : ℕ → Magnitude → ℕ
 size_of scale m = decimal m.whole.now * scale + m.fraction
 
--- digits that do not begin with 0, and less than a whole unit behind them
+-- digits that do not begin with 0, and a fraction below one whole
 pub record IsNormal (scale : ℕ) (m : Magnitude) : Type 0 where
   pub digits : IsTrue (list_all is_ascii_digit m.whole.now)
   pub first : (slice_index m.whole.now 0 == 48) ≡ false
   pub fraction : m.fraction < scale
 
--- the order of the numbers that these digits write, if they do not begin with 0
+-- the order of the values of these digits, if they do not begin with 0
 abbrev pub AreOrdered : Ordering → List ℕ → List ℕ → Type 0
 AreOrdered order a b = IsTrue (list_all is_ascii_digit a) → IsTrue (list_all is_ascii_digit b) → (slice_index a 0 == 48) ≡ false → (slice_index b 0 == 48) ≡ false
     → order ≡ nat_cmp (decimal a) (decimal b)
@@ -35,7 +35,7 @@ abbrev pub number_of : ℕ → Bound → ℤ
 number_of scale (Small number) = number
 number_of scale (Large negative magnitude) = signed negative (size_of scale magnitude)
 
--- numbers of 128 bits are small, and no others
+-- exactly the numbers that fit 128 bits are small
 pub record IsLarge (scale : ℕ) (negative : Bool) (magnitude : Magnitude) : Type 0 where
   pub normal : IsNormal scale magnitude
   pub past : FitsSigned w128 (signed negative (size_of scale magnitude)) → ⊥

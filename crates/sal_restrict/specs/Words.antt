@@ -1,4 +1,4 @@
--- Words and blanks in the texts of ranges.
+-- Separators and white space in the texts of ranges.
 use Rattle.std.specs.Prelude.{ℕ, suc, ◌-◌, Bool, ◌||◌, ◌==◌, nat_eq, List, [], ◌∷◌, length, take, drop, if◌then◌else◌}
 use Rattle.std.specs.List.{prefix_len, suffix_len, starts_with}
 use lib.Pointwise.{pointwise}
@@ -17,14 +17,14 @@ without_blanks_before t = drop (prefix_len is_blank t) t
 abbrev pub without_blanks_behind : List ℕ → List ℕ
 without_blanks_behind t = take (length t - suffix_len is_blank t) t
 
--- without the blanks at both ends
+-- without white space at both ends
 abbrev pub trim : List ℕ → List ℕ
 trim t = without_blanks_behind (without_blanks_before t)
 
 abbrev pub is_trimmed : List ℕ → Bool
 is_trimmed t = length (trim t) == length t
 
--- where the word first stands in the text, or the text's length where it stands nowhere
+-- the offset of the first `word` in the text, or the text's length if it has none
 abbrev pub place_of : List ℕ → List ℕ → ℕ
 place_of word [] = 0
 place_of word (c ∷ t) = if starts_with nat_eq (c ∷ t) word then 0 else suc (place_of word t)

@@ -1,4 +1,4 @@
--- The frames of the next hub go on where those of one end.
+-- The frames of the next hub continue where those of one end.
 use Rattle.std.proofs.Common.{◌≡◌, ℕ, suc, ◌+◌, List, [], ◌∷◌, ◌++◌, length, map, ap, sym, ◌∙◌, arith}
 use Rattle.std.specs.List.{range_with_len}
 use Rattle.sal_types.specs.declared.value.Store.TheVariants.{Config, Oper}

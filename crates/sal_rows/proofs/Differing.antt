@@ -1,4 +1,4 @@
--- What the changes between two trees say of each path, and their order.
+-- The changes between two trees at each path, and their order.
 use Rattle.std.proofs.Common.{◌≡◌, Bool, true, false, List, [], ◌∷◌, Option, Some, None, map, refl, ap, sym, ◌∙◌, cond, if◌then◌else◌}
 use Rattle.std.specs.Prelude.{T, not, is_some}
 use Rattle.std.specs.List.{filter, fold}

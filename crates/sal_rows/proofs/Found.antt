@@ -1,4 +1,4 @@
--- What a search by halves finds among rows in the order of their paths, and the rows with a cell set there.
+-- The result of a binary search among rows in the order of their paths, and the rows with a cell set there.
 use Rattle.std.proofs.Common.{◌≡◌, ℕ, zero, suc, ◌+◌, ◌<◌, ◌≤◌, true, List, [], ◌∷◌, length, get_or, set, refl, ap, sym, ◌∙◌, arith, cond}
 use Rattle.std.specs.Prelude.{not, Result, Ok, Err}
 use Rattle.std.specs.List.{filter, insert, remove}
@@ -22,7 +22,7 @@ less Less e = refl
 less Equal e = cc
 less Greater e = cc
 
--- one path before another stands so from both sides
+-- the order of two paths, from the other side
 pub turned : (x y : List Step) → path_cmp x y ≡ Less → path_cmp y x ≡ Greater
 turned x y e = path_cmp-IsTotalOrder.antisymm y x ∙ ap ordering_reverse e
 
@@ -47,7 +47,7 @@ rows_sorted rows rising k d low inside =
     let down = turned (get_or rows k d).path (get_or rows (suc k) d).path up in
     ap (λ n. is_lt (path_cmp (get_or rows n d).path (get_or rows k d).path)) (sym one) ∙ ap is_lt down
 
--- rows rise by how they stand to any path
+-- rows rise by their order relative to any path
 pub rows_rise : (rows : List Row) (q : List Step) → IsAscending rows → IsNonDecreasingBy (λ (y : Row). ordering_index (path_cmp y.path q)) rows
 rows_rise rows q rising = searchable_from_sorted path_cmp-IsTotalOrder (λ (y : Row). y.path) rows q (rows_sorted rows rising)
 

@@ -31,13 +31,13 @@ or_swap false false = refl
 pub find_last : (t : ℕ → Bool) (xs : List ℕ) (x : ℕ) → find t (reverse (xs ++ x ∷ [])) ≡ cond (t x) (Some x) (find t (reverse xs))
 find_last t xs x = ap (find t) (reverse-append xs (x ∷ []))
 
--- and finds one exactly where there is one
+-- and finds one exactly if there is one
 pub find_any : (t : ℕ → Bool) (xs : List ℕ) → is_some (find t (reverse xs)) ≡ list_any t xs
 find_any t [] = refl
 find_any t (x ∷ xs) =
     ap (λ ys. is_some (find t ys)) (reverse_onto xs x []) ∙ find-append t (reverse xs) x ∙ ap (λ b. b || t x) (find_any t xs) ∙ or_swap (list_any t xs) (t x)
 
--- the last of so many numbers is looked at first
+-- the last number is tried first
 pub find_back : (t : ℕ → Bool) (base left : ℕ) → 0 < left → find t (reverse (numbers_after base left)) ≡ cond (t (base + left)) (Some (base + left)) (find t (reverse (numbers_after base (left - 1))))
 find_back t base zero h = absurd (omega arith)
 find_back t base (suc n) h =

@@ -29,7 +29,7 @@ use Rattle.sal_rows.specs.declared.clash.Rules.{Rules}
 use Rattle.sal_rows.specs.Clash.{at_row, checks_leafs, clash_from, is_leaf, is_stale, last_touch_over, leaf_clash, numbers_over, op_clash, parent_clash, path_clash, read_clash, reads_from, tip}
 use Rattle.sal_rows.specs.Quiet.{SameBelow, AreFresh, AreSpans, with_own, AreQuiet, AreReadsQuiet, NoClashIsQuiet, SameOrTouched}
 
--- ---- what is below a path
+-- ---- rows below a path
 
 -- operations of both trees keep what is the same
 same-apply : (s : Store) (ops : List Op) (p : List Step) (x y : List Row) → SameBelow p x y → SameBelow p (apply_ops x s ops) (apply_ops y s ops)

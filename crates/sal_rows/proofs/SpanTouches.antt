@@ -99,7 +99,7 @@ pub find_none : {X : Type 0} (t : X → Bool) (xs : List X) → find t xs ≡ No
 find_none t [] = λ e. refl
 find_none t (y ∷ xs) = elim (t y) as (λ b. cond b (Some y) (find t xs) ≡ None → (b || list_any t xs) ≡ false) [ true ↦ λ e. cc | false ↦ λ e. find_none t xs e ]
 
--- the numbers of a span lie in it
+-- the numbers of a span are in it
 pub numbers_lie : (a n : ℕ) → All (λ k. (a < k) × (k ≤ a + n)) (numbers_after a n)
 numbers_lie a zero = All-nil _
 numbers_lie a (suc n) =

@@ -1,5 +1,5 @@
--- What a listener at a path is given. `trees` are the trees of its store at the commits, by their numbers, and `own` is
--- whether the node at the path has a row of its own by its kind.
+-- The snapshots and batches of a listener at a path. `trees` are the trees of its store at the commits, by their numbers, and `own`
+-- says whether the node at the path has its own row by its kind.
 use Rattle.std.specs.Prelude.{◌≡◌, ℕ, zero, suc, ◌+◌, ◌-◌, ◌≤◌, Bool, List, [], ◌∷◌, ◌++◌}
 use Rattle.sal_types.specs.declared.value.Step.{Step}
 use Rattle.sal_types.specs.declared.row.Row.{Row}
@@ -11,11 +11,11 @@ use Rattle.sal_rows.specs.declared.batch.Part.{Part}
 use Rattle.sal_rows.specs.Changes.{changes_under}
 use Rattle.sal_rows.specs.Kinds.{kind_of}
 
--- of a listener that is opened at commit k
+-- for a listener that is opened at commit k
 abbrev pub opened : (ℕ → List Row) → List Step → ℕ → Opened
 opened trees p k = record { version = k; rows = under (trees k) p }
 
--- the part of commit k with these changes, where there are any
+-- the part of commit k with these changes, if there are any
 abbrev pub part_with : Bool → List Row → List Row → List Step → ℕ → List Change → List Part
 part_with own before after p k [] = []
 part_with own before after p k (c ∷ cs) = record { commit = k; kind = kind_of own before after p (c ∷ cs); list = c ∷ cs } ∷ []
@@ -33,7 +33,7 @@ parts_after own trees p k (suc n) = part own (trees k) (trees (k + 1)) p (k + 1)
 abbrev pub batch : Bool → (ℕ → List Row) → List Step → ℕ → ℕ → Batch
 batch own trees p from to = record { from = from; to = to; lists = parts_after own trees p from (to - from) }
 
--- each part's commit and its changes, without its kind
+-- the commit and the changes of each part, without its kind
 abbrev pub lists_of : List Part → List (ℕ × List Change)
 lists_of [] = []
 lists_of (p ∷ ps) = (p.commit, p.list) ∷ lists_of ps

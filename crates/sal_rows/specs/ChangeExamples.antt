@@ -27,7 +27,7 @@ changed p was is = record { path = p; before = was; after = is }
 abbrev pub only : ℕ → CandidateKind → Change → List Part → List Part
 only k kind change rest = record { commit = k; kind = kind; list = change ∷ [] } ∷ rest
 
--- what the operations change in the configuration at the path and below it, and the kind
+-- the changes that the operations make in the configuration at the path and below it, and the kind
 abbrev pub changes_by : List Row → List Op → List Step → List Change
 changes_by before ops p = changes_under before (apply_ops before Config ops) p
 

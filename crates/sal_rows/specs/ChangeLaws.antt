@@ -9,21 +9,21 @@ use Rattle.sal_rows.specs.Changes.{changes_under, change_at, differing}
 use Rattle.sal_rows.specs.Batches.{batch, HasChangesOf}
 use Rattle.sal_rows.specs.Patch.{with_changes, with_parts}
 
--- The changes name each path under p at which the cells differ, and no other.
+-- The changes name exactly the paths under p at which the cells differ.
 abbrev pub ChangesAreWhereCellsDiffer : Type 0
 ChangesAreWhereCellsDiffer =
     (before after : List Row) (p r : List Step) → IsAscending after
     → change_at (changes_under before after p) r ≡ (if is_prefix p r then differing (cell before r) (cell after r) else None)
 
--- The changes, done to the rows before, give the rows after.
+-- The changes, applied to the rows before, give the rows after.
 abbrev pub ChangesGiveTheRowsAfter : Type 0
 ChangesGiveTheRowsAfter = (before after : List Row) (p : List Step) → IsAscending before → IsAscending after → with_changes (under before p) (changes_under before after p) ≡ under after p
 
--- A batch carries the rows on from the tree at its start to the one at its end.
+-- A batch, applied to the rows at its start, gives those at its end.
 abbrev pub BatchesGiveTheRowsAfter : Type 0
 BatchesGiveTheRowsAfter = (trees : ℕ → List Row) (p : List Step) (b : Batch) → ((k : ℕ) → IsAscending (trees k)) → HasChangesOf trees p b → with_parts (under (trees b.from) p) b.lists ≡ under (trees b.to) p
 
--- The parts of two batches, one behind the other, are those of the batch over both.
+-- The parts of two consecutive batches are those of the batch over both.
 abbrev pub BatchesFollowOneAnother : Type 0
 BatchesFollowOneAnother =
     (own : Bool) (trees : ℕ → List Row) (p : List Step) (from middle to : ℕ) → from ≤ middle → middle ≤ to

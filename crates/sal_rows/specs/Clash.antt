@@ -1,4 +1,4 @@
--- Conflicts of a transaction with the commits that came after its base, by two tests of each operation, and under version rules 2 by
+-- Conflicts of a transaction with the commits after its base, by two tests of each operation, and under version rules 2 by
 -- three; then by a test of each of its checked reads. The tests of writes follow the optimistic commit of the MD-SAL developer guide
 -- and its tables of conflicts; the exact rules are this project's own.
 use Rattle.std.specs.Prelude.{ℕ, ◌-◌, Bool, true, false, not, ◌&&◌, List, [], ◌∷◌, ◌++◌, length, take, find, reverse, Option, None, Some, is_some, slice_get, if◌then◌else◌, unwrap_or}
@@ -23,14 +23,14 @@ use Rattle.sal_rows.specs.declared.clash.Span.{Span}
 use Rattle.sal_rows.specs.PathClash.{difference, is_covered}
 use Rattle.sal_rows.specs.declared.clash.Clash.{Clash}
 
--- a put and a merge need what stands above their path
+-- a put and a merge require the parents above their path
 abbrev pub needs_parents : Act → Bool
 needs_parents (Put rows) = true
 needs_parents (Merge rows) = true
 needs_parents Delete = false
 needs_parents Read = false
 
--- under version rules 2 a merge looks at the leafs that it names
+-- under version rules 2 a merge checks the leafs that it names
 abbrev pub checks_leafs : Rules → Act → Bool
 checks_leafs One act = false
 checks_leafs Two (Put rows) = false
@@ -52,11 +52,11 @@ abbrev pub numbers_over : List Span → List ℕ
 numbers_over [] = []
 numbers_over (span ∷ spans) = numbers_in span ++ numbers_over spans
 
--- how many steps lead to each place above p and below the root, the outermost first
+-- the lengths of the prefixes of p between the root and p, the shortest first
 abbrev pub depths_above : List Step → List ℕ
 depths_above p = numbers_after 0 (length p - 1)
 
--- the opening trees and the commits behind them; `base` are the trees that the transaction stands on
+-- the opening trees and the commits after them; `base` are the trees at the start of the transaction
 module _ (opening : Store → List Row) (commits : List (List Op)) where
   -- the tree of the store at the newest commit
   abbrev pub tip : Store → List Row
@@ -67,7 +67,7 @@ module _ (opening : Store → List Row) (commits : List (List Op)) where
   last_touch_over spans s p = find (touches_at opening commits s p) (reverse (numbers_over spans))
 
   -- The base has a row at p, as each list entry and each presence container has one; no earlier operation of the
-  -- transaction sets p, and nothing stands there at the tip.
+  -- transaction sets p, and the tip has nothing there.
   abbrev pub is_lost : (Store → List Row) → List Op → Store → List Step → Bool
   is_lost base earlier s p = is_some (cell (base s) p) && (not (has (tip s) p) && not (is_some (last_setting s earlier p)))
 
@@ -137,6 +137,6 @@ module _ (opening : Store → List Row) (commits : List (List Op)) where
   reads_from spans earlier [] = None
   reads_from spans earlier (op ∷ ops) = option_or (read_clash spans earlier op) (reads_from spans (earlier ++ op ∷ []) ops)
 
-  -- The conflict of a transaction's operations, where foreign commits lie in these spans. Its reads are tested after all of its writes.
+  -- The conflict of a transaction's operations with the commits in these spans. Its reads are tested after all its writes.
   abbrev pub clash : Rules → (Store → List Row) → List Span → List Op → Option Clash
   clash rules base spans ops = option_or (clash_from rules base spans [] ops) (reads_from spans [] ops)

@@ -1,4 +1,4 @@
--- The commits of a domain: the trees at them, what touches a path, and what stays as it was.
+-- The commits of a domain: the trees at them, which paths they touch, and which stay unchanged.
 -- A commit is the list of its operations; commits are numbered from 1, and 0 is the opening.
 use Rattle.std.specs.Prelude.{ℕ, zero, suc, ◌+◌, ◌-◌, Bool, false, not, ◌&&◌, ◌||◌, List, [], ◌∷◌, take, find, reverse, Option, Some, None, slice_get, if◌then◌else◌}
 use Rattle.std.specs.List.{fold, list_any}
@@ -31,12 +31,12 @@ abbrev pub numbers_in : Span → List ℕ
 numbers_in span = numbers_after span.from (span.to - span.from)
 
 -- a commit touches p: one of its puts or merges has a row under p, or one of its operations sets a row under p that
--- stands before it
+-- exists before
 abbrev pub commit_touches : List Row → Store → List Step → Option (List Op) → Bool
 commit_touches before s p None = false
 commit_touches before s p (Some ops) = touches before s ops p
 
--- whether a path is unchanged that was there or not, is there or not, and was touched or not
+-- whether a path is unchanged, by whether it was present, is present, and was touched
 abbrev pub unchanged_by : Bool → Bool → Bool → Bool
 unchanged_by was is touched = (not was && not is) || ((was && is) && not touched)
 

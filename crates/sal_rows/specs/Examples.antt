@@ -65,7 +65,7 @@ read s path = record { store = s; path = path; act = Read }
 abbrev pub both : List Row → Store → List Row
 both rows s = rows
 
--- the conflict of a transaction that was begun on the opening, after these commits of others
+-- the conflict of a transaction with the opening as its base, after these commits of others
 abbrev pub after_by : Rules → List Row → List (List Op) → ℕ → List Op → Option Clash
 after_by rules opening commits newest ops = clash (both opening) commits rules (both opening) (record { from = 0; to = newest } ∷ []) ops
 
@@ -76,7 +76,7 @@ after opening commits newest ops = after_by One opening commits newest ops
 abbrev pub after_two : List Row → List (List Op) → ℕ → List Op → Option Clash
 after_two opening commits newest ops = after_by Two opening commits newest ops
 
--- a conflict at the path of an operation, and one at that of a row of its data
+-- a conflict at the path of an operation, and one at the path of a row of its data
 abbrev pub found : ℕ → ℕ → ClashKind → ℕ → Option Clash
 found op depth kind commit = Some (record { op = op; row = None; depth = depth; kind = kind; commit = commit })
 

@@ -12,19 +12,19 @@ use Rattle.sal_rows.specs.declared.clash.Clash.{Clash}
 use Rattle.sal_rows.specs.Clash.{checks_leafs, clash, is_leaf, path_by}
 use Rattle.sal_rows.specs.Quiet.{AreSpans, with_own}
 
--- what a conflict of the operation names, with its store and its path
+-- the place and the commit of a conflict of the operation
 abbrev pub place_of : Op → Clash → Difference
 place_of op c = record { store = op.store; path = take c.depth (path_by op c.row); kind = c.kind; commit = c.commit }
 
--- Where a conflict is placed: at the first steps of the operation's path; or, where it has a row, at all of the path of a leaf in the data
+-- The place of a conflict: a prefix of the operation's path; or, if the conflict has a row, the whole path of a leaf in the data
 -- of a merge, under version rules 2.
 abbrev pub IsPlaced : Rules → Op → ℕ → Option ℕ → Type 0
 IsPlaced rules op depth None = depth ≤ length op.path
 IsPlaced rules op depth (Some i) =
     (checks_leafs rules op.act ≡ true) × ((row : Row) × (slice_get (rows_of_act op.act) i ≡ Some row) × (is_leaf row.cell ≡ true) × (depth ≡ length row.path))
 
--- Each conflict is of one of the operations, at the first steps of its path, or of that of a leaf that it merges, and names a commit of
--- one of the spans that touched that. The base is the tree at the start of the first span with the transaction's own commits.
+-- Each conflict is of one of the operations, at a prefix of its path, or at a leaf that it merges, and names a commit of
+-- one of the spans that touched the place. The base is the tree at the start of the first span with the transaction's own commits.
 abbrev pub NamesALaterCommit : Type 0
 NamesALaterCommit =
     (opening : Store → List Row) (commits : List (List Op)) (rules : Rules) (base : Store → List Row) (span : Span) (spans : List Span) (ops : List Op) (c : Clash)

@@ -1,4 +1,4 @@
--- A tree that follows another one by its changes.
+-- A tree that is updated by the changes of another one.
 use Rattle.std.specs.Prelude.{not, List, Option, Some, None}
 use Rattle.std.specs.List.{filter, fold}
 use Rattle.sal_types.specs.declared.value.Step.{Step}
@@ -10,7 +10,7 @@ use Rattle.sal_rows.specs.declared.change.Change.{Change}
 use Rattle.sal_rows.specs.declared.batch.Part.{Part}
 use Rattle.sal_rows.specs.declared.rows.patch.Patch.{Patch}
 
--- the rows with the cell at the path, or with none there
+-- the rows with the cell at the path, or without a row there
 abbrev pub with_cell : List Row → List Step → Option Cell → List Row
 with_cell rows p None = filter (λ row. not (path_eq p row.path)) rows
 with_cell rows p (Some c) = set_row rows (record { path = p; cell = c })

@@ -1,5 +1,5 @@
--- What no conflict says: base and tip have the same rows at and below each path that is put or deleted, and at and below each path that
--- is read and not covered; and under version rules 2 the same cell at each leaf that is merged.
+-- What follows from no conflict: base and tip have the same rows at and below each path that is put or deleted, and at and below each
+-- path that is read and not covered; and under version rules 2 the same cell at each leaf that is merged.
 use Rattle.std.specs.Prelude.{◌≡◌, ℕ, ◌+◌, ◌-◌, ◌≤◌, true, false, List, [], ◌∷◌, length, take, None, Some, slice_get, unwrap_or}
 use Rattle.sal_types.specs.declared.value.Store.{Store}
 use Rattle.sal_types.specs.declared.value.Step.{Step}
@@ -24,7 +24,7 @@ abbrev pub AreSpans : ℕ → Span → List Span → Type 0
 AreSpans newest span [] = (span.from ≤ span.to) × (span.to ≡ newest)
 AreSpans newest span (next ∷ spans) = (span.from ≤ span.to) × (next.from ≡ span.to + 1) × AreSpans newest next spans
 
--- the tree after the transaction's own commits, at which the spans start
+-- the tree after the transaction's own commits, at the start of the spans
 abbrev pub with_own : List (List Op) → Store → List Row → List Span → List Row
 with_own commits s tree [] = tree
 with_own commits s tree (span ∷ spans) = with_own commits s (apply_ops tree s (unwrap_or (slice_get commits (span.from - 1)) [])) spans
@@ -39,8 +39,8 @@ abbrev pub AreReadsQuiet : (Store → List Row) → (Store → List Row) → Lis
 AreReadsQuiet base tip ops =
     (i : ℕ) (op : Op) → slice_get ops i ≡ Some op → is_read op.act ≡ true → is_covered (take i ops) op.store op.path ≡ false → SameBelow op.path (base op.store) (tip op.store)
 
--- At the path of each leaf that a merge names, at or below its own path, two pairs of trees have the same cell; of version rules 1 nothing
--- is said.
+-- At the path of each leaf that a merge names, at or below its own path, two pairs of trees have the same cell; under version rules 1
+-- there is no condition.
 abbrev pub AreFresh : Rules → (Store → List Row) → (Store → List Row) → List Op → Type 0
 AreFresh rules base tip [] = Unit {0}
 AreFresh rules base tip (op ∷ ops) =
@@ -49,7 +49,7 @@ AreFresh rules base tip (op ∷ ops) =
     → cell (base op.store) row.path ≡ cell (tip op.store) row.path)
     × AreFresh rules base tip ops
 
--- Where the base is the tree at the start of the first span with the own commits, and nothing clashes.
+-- If the base is the tree at the start of the first span with the own commits, and there is no conflict.
 abbrev pub NoClashIsQuiet : Type 0
 NoClashIsQuiet =
     (opening : Store → List Row) (commits : List (List Op)) (rules : Rules) (base : Store → List Row) (span : Span) (spans : List Span) (ops : List Op)
@@ -58,7 +58,7 @@ NoClashIsQuiet =
     → clash opening commits rules base (span ∷ spans) ops ≡ None
     → AreQuiet base (tip opening commits) ops × AreFresh rules base (tip opening commits) ops × AreReadsQuiet base (tip opening commits) ops
 
--- And at each path at which base and tip have different cells a commit in the spans touched it: so the third test finds the first leaf of a
+-- And each path at which base and tip have different cells was touched by a commit in the spans: so the third test finds the first leaf of a
 -- merge whose cells differ.
 abbrev pub SameOrTouched : Type 0
 SameOrTouched =

@@ -22,7 +22,7 @@ is_known ops s p = is_covered ops s p || was_read ops s p
 abbrev pub read_of : Store → List Step → Op
 read_of s p = record { store = s; path = p; act = Read }
 
--- the operations with a read of the path, where it is not known
+-- the operations with a read of the path, unless it is known
 abbrev pub with_read : Store → List Step → List Op → List Op
 with_read s p ops = if is_known ops s p then ops else ops ++ read_of s p ∷ []
 

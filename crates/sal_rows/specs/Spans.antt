@@ -4,7 +4,7 @@ use Rattle.std.specs.List.{filter}
 use Rattle.sal_rows.specs.declared.clash.Span.{Span}
 use Rattle.sal_rows.specs.Commits.{numbers_after}
 
--- what is of the second chain, if of any, is of the first; what is of no chain has none of its own
+-- a commit of the second chain, if any, is of the first; a submission without a chain has no own commits
 abbrev pub is_of_chain : Option ℕ → Option ℕ → Bool
 is_of_chain None other = false
 is_of_chain (Some chain) None = false
@@ -18,11 +18,11 @@ is_own chain chains k = is_of_chain chain (unwrap_or (slice_get chains (k - 1)) 
 abbrev pub own_commits : ℕ → Option ℕ → List (Option ℕ) → List ℕ
 own_commits a chain chains = filter (is_own chain chains) (numbers_after a (length chains - a))
 
--- the pieces from commit a to commit t that these commits part
+-- the ranges between commit a and commit t without these commits
 abbrev pub spans_between : ℕ → List ℕ → ℕ → List Span
 spans_between a [] t = record { from = a; to = t } ∷ []
 spans_between a (c ∷ cs) t = record { from = a; to = c - 1 } ∷ spans_between c cs t
 
--- the spans of a submission of the chain that stands on commit a
+-- the spans of a submission of the chain with base commit a
 abbrev pub spans : ℕ → Option ℕ → List (Option ℕ) → List Span
 spans a chain chains = spans_between a (own_commits a chain chains) (length chains)

@@ -1,4 +1,4 @@
--- What one call more does to requests, to what was handed out and to answers.
+-- The effect of one more call on requests, on delivered ones and on answers.
 use Rattle.std.proofs.Common.{◌≡◌, ℕ, false, ◌||◌, List, [], ◌∷◌, ◌++◌, Option, Some, None, refl, ap, ◌∙◌}
 use Rattle.std.specs.Prelude.{slice_get}
 use Rattle.std.specs.List.{cons_option, filter_map}

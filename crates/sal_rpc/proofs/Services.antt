@@ -80,7 +80,7 @@ first-of : (xs ys : List ℕ) → slice_get (xs ++ ys) 0 ≡ option_or (slice_ge
 first-of [] ys = refl
 first-of (x ∷ xs) ys = refl
 
--- one more registers, for a service that nobody provides
+-- one more client registers, for a service without a provider
 pub picked-more : (s : Service) (rs : List Registration) (r : Registration) → picked (service r.rpc r.context) rs ≡ None → picked s (rs ++ r ∷ []) ≡ (if is_at (service_cmp (service r.rpc r.context)) s then Some r.client else picked s rs)
 picked-more s rs r free =
     ap (λ (l : List ℕ). slice_get l 0) (filter_map-append (λ (q : Registration). if is_for s.rpc s.context q then Some q.client else None) rs (r ∷ []))

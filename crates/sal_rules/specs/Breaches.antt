@@ -32,7 +32,7 @@ keep (Some least) other = if is_lt (breach_cmp other least) then Some other else
 abbrev pub least : List Breach → Option Breach
 least breaches = fold keep None breaches
 
--- ---- which rules are judged
+-- ---- which rules are checked
 
 -- In the configuration those of configuration nodes, in the operational store those of all data nodes and choices. Nodes of
 -- RPCs and notifications have none.
@@ -53,7 +53,7 @@ rules_of n = Mandatory n ∷ MinElements n ∷ MaxElements n ∷ Unique n ∷ Tw
 -- ---- the breaches
 
 -- The breach of a rule as seen from a place of the node m, if it is broken there. A path has at most 32 steps, so below
--- that there is no data, and nothing is demanded.
+-- that there is no data, and nothing is required.
 abbrev pub breach_of : SchemaTable → Store → List Step → Seen → Option ℕ → Rule → List Breach
 breach_of table store place see m rule =
     if (is_looked_at table store (node_of_rule rule) && broken table see m rule) && nat_le (length (place ++ steps_to table rule)) 32
@@ -71,7 +71,7 @@ numbers table = first (length table.nodes)
 abbrev pub breaches_at : SchemaTable → Store → List Step → Seen → Option ℕ → List ℕ → List Breach
 breaches_at table store place see m nodes = flat_map (λ n. flat_map (breach_of table store place see m) (rules_of n)) nodes
 
--- those that are judged at a place: none at a list itself, but at its entries
+-- those that are checked at a place: none at a list itself, but at its entries
 abbrev pub breaches_from : SchemaTable → Store → List Step → Seen → Spot → List ℕ → List Breach
 breaches_from table store place see spot nodes = if spot.wants_entry then [] else breaches_at table store place see spot.node nodes
 

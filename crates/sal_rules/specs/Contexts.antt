@@ -1,4 +1,4 @@
--- Which nodes of a schema are demanded, and where (RFC 7950 sections 7.6.5, 7.7.5 and 7.9.4).
+-- Which nodes of a schema are required, and where (RFC 7950 sections 7.6.5, 7.7.5 and 7.9.4).
 use Rattle.std.specs.Prelude.{ℕ, zero, suc, Bool, false, not, List, [], ◌∷◌, length, Option, Some, None, if◌then◌else◌}
 use Rattle.sal_types.specs.declared.value.Step.{Step}
 use Rattle.sal_types.specs.declared.value.Step.TheVariants.{Node}
@@ -13,7 +13,7 @@ abbrev pub is_plain : Kind → Bool
 is_plain (Container presence) = not presence
 is_plain kind = false
 
--- The context of a node: its closest ancestor in the schema tree that is not a non-presence container. None where all
+-- The context of a node: its closest ancestor in the schema tree that is not a non-presence container. None if all
 -- are such.
 abbrev pub context : SchemaTable → ℕ → Option ℕ
 context table n = closest (λ kind. not (is_plain kind)) table (length table.nodes) (parent_of table n)

@@ -18,7 +18,7 @@ abbrev pub info : Option ℕ → Kind → Option Bool → Bool → ℕ → Optio
 info parent kind config mandatory least most keys unique =
     record { parent = parent; kind = kind; «module» = 0; name = []; config = config; ty = None; keys = keys; mandatory = mandatory; min_elements = least; max_elements = most; unique = unique }
 
--- configuration nodes of which nothing is stated, or that they are mandatory
+-- configuration nodes without further properties, or mandatory ones
 abbrev pub node : Option ℕ → Kind → NodeInfo
 node parent kind = info parent kind (Some true) false 0 None [] []
 

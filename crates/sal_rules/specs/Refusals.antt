@@ -31,7 +31,7 @@ missing_of table tree op = if needs_parents op.act then missing_parent table tre
 
 -- ---- state data
 
--- the path, where it is of a state node, or else that of the first row that is
+-- the path, if it is of a state node, or else that of the first row of one
 abbrev pub first_state : SchemaTable → List Step → List Row → Option (List Step)
 first_state table path rows =
     if is_of_state table path then Some path else option_map (λ (row : Row). row.path) (find (λ (row : Row). is_of_state table row.path) rows)
@@ -49,7 +49,7 @@ or_else (Some fault) other = Some fault
 abbrev pub when : Bool → TxFault → Option TxFault
 when b fault = if b then Some fault else None
 
--- The root, a key leaf, state data in the configuration, a parent that is missing in the tree: the first of them counts.
+-- The root, a key leaf, state data in the configuration, a parent that is missing in the tree: the first of them is returned.
 abbrev pub refusal : SchemaTable → List Row → Op → Option TxFault
 refusal table tree op =
     or_else (when (is_root op.path) RootPath)

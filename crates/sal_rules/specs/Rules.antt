@@ -17,7 +17,7 @@ use Rattle.sal_rows.specs.declared.outcome.Rule.TheVariants.{Mandatory, MinEleme
 use Rattle.sal_rules.specs.Contexts.{context, stand, way, way_in_entry}
 use Rattle.sal_rules.specs.Seen.{Seen, further}
 
--- ---- what a place has
+-- ---- the data at a place
 
 -- A data child of this place is present; a choice or a case is present if a node in it is. Choices and cases
 -- are nested to this depth at most.
@@ -32,20 +32,20 @@ stands table see n = is_there table see (length table.nodes) n
 abbrev pub count : Seen → ℕ → ℕ
 count see n = length (see.entries (Node n ∷ []))
 
--- ---- what is demanded
+-- ---- required nodes
 
--- A node without a context is demanded if the tree has the top-level container above it. A node whose context is a list or a
--- presence container is demanded wherever that is present, and one whose context is a case, wherever a node of the case is.
+-- A node without a context is required if the tree has the top-level container above it. A node whose context is a list or a
+-- presence container is required wherever that is present, and one whose context is a case, wherever a node of the case is.
 abbrev pub is_demanded_by : SchemaTable → Seen → List Step → Option ℕ → Bool
 is_demanded_by table see [] None = false
 is_demanded_by table see (container ∷ way) None = see.has (container ∷ [])
 is_demanded_by table see way (Some c) = not (is_kind is_case table c) || stands table see c
 
--- the node is demanded, as seen from the place of its context
+-- the node is required, as seen from the place of its context
 abbrev pub is_demanded : SchemaTable → Seen → ℕ → Bool
 is_demanded table see n = is_demanded_by table see (way table n) (context table n)
 
--- ---- what a node states
+-- ---- the statements of a node
 
 abbrev pub is_required : SchemaTable → ℕ → Bool
 is_required table n = is_mandatory table n && (is_kind is_leaf table n || is_kind is_choice table n)
@@ -87,7 +87,7 @@ has_two_cases table see n = nat_le 2 (length (filter (stands table see) (childre
 -- ---- one rule
 
 -- The rule is broken as seen from a place of the node m, or from the root. `Mandatory` and `MinElements` are
--- judged at the node's context, and the others at its data parent.
+-- checked at the node's context, and the others at its data parent.
 abbrev pub broken : SchemaTable → Seen → Option ℕ → Rule → Bool
 broken table see m (Mandatory n) = is_required table n && (is_same (stand table n) m && (is_demanded table see n && not (stands table (further see (way table n)) n)))
 broken table see m (MinElements n) = has_minimum table n && (is_same (stand table n) m && (is_demanded table see n && nat_lt (count (further see (way table n)) n) (min_elements table n)))
@@ -95,7 +95,7 @@ broken table see m (MaxElements n) = is_kind has_entries table n && (is_same (da
 broken table see m (Unique n) = is_kind is_list table n && (is_same (data_parent table n) m && repeats table see n)
 broken table see m (TwoCases n) = is_kind is_choice table n && (is_same (data_parent table n) m && has_two_cases table see n)
 
--- the steps from where a rule is judged to where it is broken
+-- the steps from where a rule is checked to where it is broken
 abbrev pub steps_to : SchemaTable → Rule → List Step
 steps_to table (Mandatory n) = way table n
 steps_to table (MinElements n) = way table n ++ Node n ∷ []

@@ -1,4 +1,4 @@
--- What is seen of a tree from one of its places. Paths begin at that place.
+-- The tree as seen from one of its places. Paths begin at that place.
 use Rattle.std.specs.Prelude.{Bool, List, [], ◌∷◌, ◌++◌, Option, if◌then◌else◌}
 use Rattle.std.specs.List.{flat_map}
 use Rattle.std.specs.Ordering.{eq_by_cmp}
@@ -14,7 +14,7 @@ step_past [] (step ∷ []) = step ∷ []
 step_past (s ∷ p) (t ∷ path) = if eq_by_cmp step_cmp s t then step_past p path else []
 step_past p path = []
 
--- the entries of the list or leaf-list at a path: each has a row of its own
+-- the entries of the list or leaf-list at a path: each has its own row
 abbrev pub entries : List Row → List Step → List Step
 entries rows p = flat_map (λ (row : Row). step_past p row.path) rows
 

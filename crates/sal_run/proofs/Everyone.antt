@@ -349,7 +349,7 @@ module _ (tables : List Versions) (lock : TableId) (programs : List (List Script
         by false is high =
             none_there e.client hub.log i e at refl (others e.client (none_else e.client high (λ same. true≢false (sym (eq-eqb e.client 65535 same) ∙ is))))
 
-    -- what the clients' programs are, as moves
+    -- the clients' programs as moves
     program_of : (c : ℕ) (steps : List Move) → slice_get (clients_of programs) c ≡ Some steps → (p : List ScriptStep) × (slice_get programs c ≡ Some p) × (moves_of p ≡ steps)
     program_of c steps at =
         let within : c < length programs = let l = slice_get_within (clients_of programs) c steps at in let same = map_long moves_of programs in omega (arith, l, same) in

@@ -1,4 +1,4 @@
--- How a client comes on along the log: by its local steps, by the entries of others, and by a call of its own.
+-- How a client goes along the log: by its local steps, by entries of others, and by its own calls.
 use Rattle.std.proofs.Common.{◌≡◌, ℕ, ◌+◌, ◌<◌, ◌≤◌, List, [], ◌++◌, Bool, length, Option, None, Some, refl, ap, sym, ◌∙◌, subst, arith, append-nil, length-append}
 use Rattle.std.specs.Option.{option_map}
 use Rattle.std.specs.Prelude.{nat_eq}
@@ -29,7 +29,7 @@ use Rattle.sal_client.specs.Wishes.{GrowsBy}
 use Rattle.sal_client.proofs.Soundness.{IsSound-others, TokensLast, steady_longer}
 use Rattle.sal_run.specs.Stands.{StandsIn}
 
--- ---- what a sound client keeps began in the log
+-- ---- the state of a sound client began in the log
 
 mapped : {X Y : Type 0} (f : X → Y) (o : Option X) (y : Y) → option_map f o ≡ Some y → (x : X) × (o ≡ Some x) × (f x ≡ y)
 mapped f None y is = cc
@@ -122,7 +122,7 @@ module _ (lasts : TokensLast) (tables : List Versions) (steps : List ScriptStep)
         listens = subst (λ (n : ℕ). ListensIn known.world n known.log (client_of new.client)) (same ∙ was.number) (listens_of known new.client sound);
       }
 
-  -- a turn found a longer log, with no more entries of its own
+  -- a turn found a longer log, with no more entries of the client
   pub stands_found : (known found : HubHistory) (own : List Entry) (r : CodeRun) (now : Run) → known.world ≡ found.world → IsPrefix known.log found.log → entries_by maker_of c found.log ≡ own
       → StandsIn tables steps c known own r now → StandsIn tables steps c found own r now
   stands_found known found own r now same begins mine was = record {

@@ -120,7 +120,7 @@ last_push : (xs : List Move) (d x : Move) → last_or d (xs ++ x ∷ []) ≡ x
 last_push [] d x = refl
 last_push (y ∷ xs) d x = last_push xs y x
 
--- as many steps as replies
+-- one step for each reply
 abbrev steps_for : List StepReply → List Move
 steps_for [] = []
 steps_for (r ∷ rs) = Pump ∷ steps_for rs
@@ -264,14 +264,14 @@ module _ (tables : List Versions) (steps : List ScriptStep) (lock : TableId) (v 
   abbrev entry : Entry
   entry = record { client = c; number = entries_of log c; call = by_client.call }
 
-  -- what the seat had seen has the client's calls that its turn found
+  -- the log seen before has the client's calls that its turn found
   before : exchanges_in (known v).world v.seen c ≡ exchanges_in world log c
   before =
       ap (λ (o : Option (List Domain)). exchanges_in (unwrap_or o []) v.seen c) enters.world
       ∙ sym (same_behind world c enters.seen.0 v.seen (none_behind c v.seen log v.own enters.seen was.whole enters.mine))
       ∙ ap (λ (l : List Entry). exchanges_in world l c) enters.seen.1
 
-  -- and one more is there then
+  -- and one more after it
   behind : exchanges_in (known w).world w.seen w.number ≡ exchanges_in world log c ++ exchange world c log entry ∷ []
   behind =
       (λ k. exchanges_in (turn.now k).world (turn.now k).log ((rights.0 ∙ enters.rights.0) k))

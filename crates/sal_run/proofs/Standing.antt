@@ -24,7 +24,7 @@ use Rattle.sal_client.proofs.Soundness.{TokensLast}
 use Rattle.sal_run.specs.Stands.{Enters, Stands, StandsIn}
 use Rattle.sal_run.proofs.Going.{stands_found, stands_made}
 
--- what a turn may add is of the seat's number
+-- the entry that a turn may add has the seat's number
 pub one_more : (v : SeatView) (n : ℕ) (found hub left : HubHistory) → n ≡ v.number → hub ≡ found → GrowsAtMost n hub left → OneMoreAtMost v found left
 one_more v n found hub left same start grows = ⊎_elim
     (λ (h : left ≡ hub). let o : OneMoreAtMost v found left = inl (h ∙ start) in o)
@@ -60,7 +60,7 @@ few_more v w client found left added turn =
     something : (e : Entry) → left ≡ more found e → length (drop (length found.log) left.log) ≡ 1
     something e h = ap (λ (k : HubHistory). length (drop (length found.log) k.log)) h ∙ ap length (behind found.log (e ∷ []))
 
--- a turn in which a call was tried leaves the own entries below the steps that are answered, counting the call's
+-- after a turn with a call, the own entries are fewer than the answered steps, including the call's
 pub few_left : (lock : TableId) (v w : SeatView) (h : Holding) (n at : ℕ) (hub left : HubHistory) → Enters lock v h → n ≡ v.number → hub ≡ h.hub → GrowsAtMost n hub left → TurnOf h.view h.view.number h.found left w → length v.own < at → length w.own ≤ at
 few_left lock v w h n at hub left enters number same grows turn room =
     let more = one_more h.view n h.found hub left (number ∙ sym enters.rights.0) (same ∙ enters.hub) grows in

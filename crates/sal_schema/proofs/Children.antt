@@ -1,4 +1,4 @@
--- What is known of a node for data, and that its name means it again.
+-- Properties of a data node, and that its name denotes it.
 use Rattle.std.proofs.Common.{◌≡◌, ℕ, zero, suc, ◌+◌, true, false, cond, IsTrue, List, [], ◌∷◌, ◌++◌, get_or, Option, Some, None, refl, sym, ap, subst, ◌∙◌, arith}
 use Rattle.std.specs.Prelude.{Contains, option_map, option_and_then}
 use Rattle.std.specs.List.{slice_get}
@@ -25,7 +25,7 @@ same-is None None e = refl
 same-is (Some q) None e = cc
 same-is o (Some p) e = same-some o p e
 
--- ---- what is listed under its own name
+-- ---- elements listed under their own names
 
 module _ {X : Type 0} (f : ℕ → X → List Named) where
   listed : (xs : List X) (i k n : ℕ) (x : X) (entry : Named) → slice_get xs k ≡ Some x → n ≡ i + k → f n x ≡ entry ∷ [] → Contains (each_from f i xs) entry

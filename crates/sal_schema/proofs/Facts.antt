@@ -1,4 +1,4 @@
--- What holds of the parts of a table.
+-- Properties of the parts of a table.
 use Rattle.std.proofs.Common.{◌≡◌, ℕ, zero, suc, ◌+◌, ◌<◌, ◌≤◌, Bool, true, false, cond, not, ◌&&◌, nat_lt, IsTrue, List, [], ◌∷◌, ◌++◌, inl, inr, length, get_or, Option, Some, None, sym, refl, ap, ◌∙◌, arith}
 use Rattle.std.proofs.lemmas.Bool.Decides.{nat_tests}
 use Rattle.std.specs.Prelude.{IfSome}
@@ -132,7 +132,7 @@ module _ (test : Kind → Bool) (table : SchemaTable) where
   unfolding closest
   closest-Some steps n = refl
 
-  -- the climb ends whatever the number of steps, as long as there are enough
+  -- the climb has the same end for each sufficient number of steps
   pub closest-enough : (m k : ℕ) (here : Option ℕ) → IsTable table → IfSome here (λ n. n < m) → IfSome here (λ n. n < k)
       → closest test table m here ≡ closest test table k here
   closest-enough m k None good h i = closest-None m ∙ sym (closest-None k)

@@ -47,7 +47,7 @@ got-stays xs front k x e got = ap (λ l. slice_get l k) (front-is xs front e) �
 pub got-same : {X : Type 0} (xs front : List X) (k : ℕ) → BeginsWith xs front → k < length front → slice_get xs k ≡ slice_get front k
 got-same xs front k e inside = let (x, got) = slice_get_there front k inside in got-stays xs front k x e got ∙ sym got
 
--- ---- what holds of each
+-- ---- properties of each
 
 pub all-more : {X : Type 0} (p q : X → Bool) → ((x : X) → IsTrue (p x) → IsTrue (q x)) → (xs : List X) → IsTrue (list_all p xs) → IsTrue (list_all q xs)
 all-more p q each [] h = refl

@@ -121,7 +121,7 @@ module _ (older whole : SchemaTable) (first : IsTable older) (all : IsTable whol
   modules-few : length older.modules ≤ length table.modules
   modules-few = let few = front-long whole.modules older.modules part.modules in let same = ap length modules-same in omega arith
 
-  -- ---- what both have
+  -- ---- parts that both have
 
   outlines-same : outlines table ≡ outlines whole
   outlines-same = on-mapped outline older.nodes whole.nodes part.nodes

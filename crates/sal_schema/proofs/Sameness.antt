@@ -1,4 +1,4 @@
--- What the tests of nodes, types and identities say: that two are the same.
+-- The tests of nodes, types and identities: two are the same.
 use Rattle.std.proofs.Common.{◌≡◌, ℕ, suc, ◌<◌, Bool, true, false, ◌&&◌, ◌==◌, nat_eq, IsTrue, ◌↔◌, List, [], ◌∷◌, length, take, Option, Some, None, refl, sym, ap, ◌∙◌, arith, Decides}
 use mathlib.Core.Bool.{beq}
 use Rattle.std.specs.List.{list_all}

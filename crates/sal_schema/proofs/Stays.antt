@@ -1,4 +1,4 @@
--- What a version says of a path and of rows, each later version says as well.
+-- Properties of a path and of rows by a version hold by each later version too.
 use Rattle.std.proofs.Common.{◌≡◌, ℕ, zero, suc, ◌-◌, ◌<◌, Bool as Truth, true, false, cond, not, ◌&&◌, ◌==◌, nat_lt, IsTrue, List, [], ◌∷◌, length, map, Option, Some, None, refl, sym, ap, ◌∙◌, subst, arith, if◌then◌else◌}
 use Rattle.std.specs.Prelude.{◌||◌, IfSome, option_and_then, option_map, is_some}
 use Rattle.std.specs.List.{list_all, slice_get}

@@ -15,7 +15,7 @@ use Rattle.sal_schema.specs.declared.table.SchemaTable.{SchemaTable}
 
 -- ---- parts
 
--- a node of which nothing else is said
+-- a node without further properties
 abbrev pub info : Option ℕ → Kind → ℕ → Row ℕ → Option Bool → Option ℕ → Row ℕ → NodeInfo
 info parent kind m name config ty keys =
     record { parent = parent; kind = kind; «module» = m; name = name; config = config; ty = ty; keys = keys; mandatory = false; min_elements = 0; max_elements = None; unique = [] }

@@ -35,7 +35,7 @@ abbrev pub is_at_leaf : SchemaTable → Option Step → Bool
 is_at_leaf table (Some (Node n)) = is_kind is_leaf table n
 is_at_leaf table step = false
 
--- the node at the path has a row of its own by its kind
+-- the node at the path has its own row by its kind
 abbrev pub has_own_row : SchemaTable → List Step → Bool
 has_own_row table path = has_mark table (last_step path) || is_at_leaf table (last_step path)
 
@@ -83,8 +83,8 @@ abbrev pub is_root : List Step → Bool
 is_root [] = true
 is_root (step ∷ path) = false
 
--- The path of each row fits and lies at p or below it, and its cell is one for its node; list entries and presence containers
--- above it, from p down, are whole. Rows fit at the root only where none is part of an RPC or a notification.
+-- The path of each row fits and is at or below p, and its cell is one for its node; list entries and presence containers
+-- above it, from p down, are whole. Rows fit at the root only if none is part of an RPC or a notification.
 abbrev pub row_fits : SchemaTable → List Step → List Row → Row → Bool
 row_fits table p rows row =
     ((fits_path table row.path && is_prefix p row.path) && (cell_fits table row.path row.cell && is_whole_above table rows p row.path))
@@ -93,7 +93,7 @@ row_fits table p rows row =
 abbrev pub fits : SchemaTable → List Step → List Row → Bool
 fits table p rows = list_all (row_fits table p rows) rows
 
--- a tree is closed where it fits at the root
+-- a tree is closed if it fits at the root
 abbrev pub is_closed : SchemaTable → List Row → Bool
 is_closed table tree = fits table [] tree
 

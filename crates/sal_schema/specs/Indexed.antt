@@ -1,4 +1,4 @@
--- What a schema keeps beside its table.
+-- The indexes of a schema.
 use Rattle.std.specs.Prelude.{◌≡◌, ℕ, ◌<◌, List, length, Option, Some, None, map, slice_index_or, false, if◌then◌else◌}
 use Rattle.std.specs.List.{slice_get}
 use Rattle.std.specs.Option.{option_map_or}
@@ -14,7 +14,7 @@ use Rattle.sal_schema.specs.Names.{module_names, identity_names, data_names, kin
 use Rattle.sal_schema.specs.Table.{children_in, data_node}
 use Rattle.sal_schema.specs.Valid.{IsTable}
 
--- the list at each place has the children of the node of that number
+-- the list at each index has the children of the node of that number
 abbrev pub AreChildren : List NodeInfo → List (Vec ℕ Global) → Type 0
 AreChildren nodes lists = (k : ℕ) (d : Vec ℕ Global) → k < length nodes → (slice_index_or lists k d).items ≡ children_in 0 nodes (Some k)
 
@@ -28,7 +28,7 @@ passed_over nodes done None = None
 passed_over nodes done (Some p) =
     if option_map_or (λ (node : NodeInfo). is_choice_or_case node.kind) (slice_get nodes p) false then slice_index_or done p None else Some p
 
--- What a schema keeps in addition to its table is right for it: the children of the top and of each node, the data parent of each
+-- The indexes of a schema are correct: the children of the top and of each node, the data parent of each
 -- node, and the names in their order.
 pub record IsIndexed (table : SchemaTable) (first : List ℕ) (lists : List (Vec ℕ Global)) (above : List (Option ℕ))
     (of_modules of_data of_rpcs of_notifications of_identities : List Named) : Type 0 where

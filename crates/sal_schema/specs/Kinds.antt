@@ -1,4 +1,4 @@
--- What the kinds of schema nodes are like (RFC 7950 section 7).
+-- Properties of the kinds of schema nodes (RFC 7950 section 7).
 use Rattle.std.specs.Prelude.{ℕ, Bool, true, false, List as Row, codes}
 use Rattle.sal_schema.specs.contracts.kind.KindPartialEq.TheImpl as kind_partial_eq
 use Rattle.sal_schema.specs.declared.kind.Kind.{Kind}
@@ -16,7 +16,7 @@ is_data LeafList = true
 is_data Leaf = true
 is_data kind = false
 
--- paths pass over it
+-- paths skip it
 abbrev pub is_choice_or_case : Kind → Bool
 is_choice_or_case Choice = true
 is_choice_or_case Case = true

@@ -1,4 +1,4 @@
--- What a table says of a node by its number, beside what the node itself has.
+-- Properties of a node by its number, in addition to those in its line.
 use Rattle.std.specs.Prelude.{ℕ, List, [], ◌∷◌, ◌++◌}
 use Rattle.std.specs.Option.{option_map_or}
 use Rattle.sal_schema.specs.declared.table.SchemaTable.{SchemaTable}

@@ -1,4 +1,4 @@
--- Names, and what they name in a table.
+-- Names, and their numbers in a table.
 use Rattle.std.specs.Prelude.{◌≡◌, refl, ℕ, Bool, true, false, not, ◌&&◌, List, [], ◌∷◌, Option, None, MatchOption, option_map, option_and_then, find, Contains, if◌then◌else◌}
 use Rattle.std.specs.List.{list_any}
 use Rattle.std.specs.Ordering.{is_eq, on, eq_by_cmp, as_partial_cmp}
@@ -28,16 +28,16 @@ named parent m text n = record { name = name_of_parts parent m text; number = n 
 abbrev pub is_called : Name → Named → Bool
 is_called name entry = is_eq (name_cmp entry.name name)
 
--- what is named so
+-- the number of the name
 abbrev pub lookup : List Named → Name → Option ℕ
 lookup names name = option_map (λ (entry : Named). entry.number) (find (is_called name) names)
 
--- no name means two things
+-- no name has two numbers
 abbrev pub are_distinct : List Named → Bool
 are_distinct [] = true
 are_distinct (entry ∷ names) = not (list_any (is_called entry.name) names) && are_distinct names
 
--- the answer to a search for a name: the number of one that is called so, or none where none is
+-- the result of a search for a name: the number of an entry with it, or none if there is none
 abbrev pub Finds : List Named → Name → Option ℕ → Type 0
 Finds names name answer =
     MatchOption answer (list_any (is_called name) names ≡ false)
@@ -94,7 +94,7 @@ kind_names kind table = each_from (kind_at kind) 0 table.nodes
 abbrev pub module_called : SchemaTable → List ℕ → Option ℕ
 module_called table text = lookup (module_names table) (name_of_parts None 0 text)
 
--- what has this name in a module, below a parent or at the top
+-- the number of this name in a module, below a parent or at the top
 abbrev pub found : SchemaTable → List Named → Option ℕ → List ℕ → List ℕ → Option ℕ
 found table names parent m text = option_and_then (λ k. lookup names (name_of_parts parent k text)) (module_called table m)
 

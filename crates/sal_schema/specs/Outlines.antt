@@ -1,4 +1,4 @@
--- What identifies a node or an identity: its parent, its kind and its name.
+-- The identifying properties of a node or an identity: its parent, its kind and its name.
 use Rattle.std.specs.Prelude.{ℕ, ◌≤◌, List, map, length, Option}
 use Rattle.sal_schema.specs.declared.kind.Kind.{Kind}
 use Rattle.sal_schema.specs.declared.table.NodeInfo.{NodeInfo}
@@ -29,8 +29,8 @@ label identity = record { «module» = identity.module; name = identity.name }
 abbrev pub labels : SchemaTable → List Label
 labels table = map label table.identities
 
--- At the numbers of the older table the whole one has the same modules, and nodes and identities of the same outline and label, whatever else
--- the two tables say of them.
+-- At the numbers of the older table the whole one has the same modules, and nodes and identities of the same outline and label; their
+-- other properties may differ.
 pub record IsPartOf (older whole : SchemaTable) : Type 0 where
   pub nodes : BeginsWith (outlines whole) (outlines older)
   pub types : length older.types ≤ length whole.types

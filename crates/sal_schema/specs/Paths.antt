@@ -1,4 +1,4 @@
--- Which paths fit a schema, and what they name.
+-- Which paths fit a schema, and their nodes.
 use Rattle.std.specs.Prelude.{ℕ, ◌-◌, length, Bool, true, false, not, ◌&&◌, ◌||◌, List, [], ◌∷◌, Option, Some, None}
 use Rattle.std.specs.List.{slice_get}
 use Rattle.std.specs.Option.{option_map_or}
@@ -23,7 +23,7 @@ are_of_nodes table [] [] = true
 are_of_nodes table (leaf ∷ leafs) (value ∷ values) = is_of_node table leaf value && are_of_nodes table leafs values
 are_of_nodes table leafs values = false
 
--- Keys follow a list alone, and a value follows a leaf-list.
+-- Keys follow only a list, and a value follows a leaf-list.
 abbrev pub may_pick : SchemaTable → ℕ → Step → Bool
 may_pick table n (Node m) = false
 may_pick table n (Key values) = is_kind is_list table n && are_of_nodes table (keys_of table n) values
@@ -48,7 +48,7 @@ abbrev pub fits_from : SchemaTable → Place → List Step → Bool
 fits_from table place [] = true
 fits_from table place (step ∷ steps) = step_fits table place step && fits_from table (after_step table place step) steps
 
--- Each step names a node for data below the one before, or has the keys of its list or the value of its leaf-list.
+-- Each step names a data node below the one before, or has the keys of its list or the value of its leaf-list.
 abbrev pub fits_path : SchemaTable → List Step → Bool
 fits_path table path = fits_from table top path
 

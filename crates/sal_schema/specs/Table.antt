@@ -1,4 +1,4 @@
--- What a table says of its nodes, modules and identities.
+-- Properties of the nodes, modules and identities of a table.
 use Rattle.std.specs.Prelude.{ℕ, zero, suc, ◌+◌, Bool, true, false, not, ◌&&◌, ◌==◌, nat_eq, List, [], ◌∷◌, ◌++◌, length, Option, Some, None, option_map, option_and_then, slice_index_or, if◌then◌else◌}
 use Rattle.std.specs.List.{slice_get, list_any}
 use Rattle.std.specs.Option.{option_map_or, option_eq}
@@ -10,7 +10,7 @@ use Rattle.sal_schema.specs.Kinds.{is_choice_or_case, is_data, is_list}
 
 -- ---- lists with the numbers of their elements
 
--- what f gives of each element with its number, joined in order; the first has the number i
+-- the results of f at each element with its number, joined in order; the first has the number i
 abbrev pub each_from : {X Y : Type 0} → (ℕ → X → List Y) → ℕ → List X → List Y
 each_from f i [] = []
 each_from f i (x ∷ xs) = f i x ++ each_from f (i + 1) xs
@@ -35,7 +35,7 @@ node_at table n = slice_get table.nodes n
 abbrev pub kind_of : SchemaTable → ℕ → Option Kind
 kind_of table n = option_map (λ (node : NodeInfo). node.kind) (node_at table n)
 
--- a node of that number is there, and its kind passes the test
+-- a node of that number exists, and its kind passes the test
 abbrev pub is_kind : (Kind → Bool) → SchemaTable → ℕ → Bool
 is_kind test table n = option_map_or test (kind_of table n) false
 
@@ -101,11 +101,11 @@ child_at parent n node = if is_same node.parent parent then n ∷ [] else []
 abbrev pub children_in : ℕ → List NodeInfo → Option ℕ → List ℕ
 children_in i nodes parent = each_from (child_at parent) i nodes
 
--- the children in the schema tree, choices and cases among them, by number
+-- the children in the schema tree, choices and cases included, by number
 abbrev pub children_of : SchemaTable → Option ℕ → List ℕ
 children_of table parent = children_in 0 table.nodes parent
 
--- the closest node whose kind passes the test, from this one up, among so many nodes
+-- the closest node whose kind passes the test, from this one up, within `steps` nodes
 unfoldable pub closest : (Kind → Bool) → SchemaTable → ℕ → Option ℕ → Option ℕ
 closest test table zero here = None
 closest test table (suc steps) None = None
@@ -118,7 +118,7 @@ data_node table here = closest (λ kind. not (is_choice_or_case kind)) table (le
 abbrev pub data_parent : SchemaTable → ℕ → Option ℕ
 data_parent table n = data_node table (parent_of table n)
 
--- a node for data whose data parent is this one, or the top; the search goes through choices and cases
+-- a data node whose data parent is this one, or the top; the search goes through choices and cases
 abbrev pub is_data_child : SchemaTable → Option ℕ → ℕ → Bool
 is_data_child table parent n = is_kind is_data table n && is_same (data_parent table n) parent
 

@@ -51,7 +51,7 @@ parent_kind table node = option_and_then (kind_of table) node.parent
 abbrev pub is_under : (Kind → Truth) → SchemaTable → NodeInfo → Truth
 is_under test table node = option_map_or test (parent_kind table node) false
 
--- the numbers of parent, module and type are those of a node before it, a module and a type
+-- the parent has a smaller number, and the module and the type exist
 abbrev pub has_numbers : SchemaTable → ℕ → NodeInfo → Truth
 has_numbers table n node =
     (option_map_or (λ p. nat_lt p n) node.parent true && nat_lt node.module (length table.modules))
@@ -64,11 +64,11 @@ stands_right table node =
     ((not (is_under has_type table node) && agree (is_case node.kind) (is_under is_choice table node)) && agree (is_parameters node.kind) (is_under is_rpc table node))
     && (not (is_rpc node.kind || is_notification node.kind) || is_none node.parent)
 
--- just leafs and leaf-lists have a type
+-- exactly leafs and leaf-lists have a type
 abbrev pub has_its_type : NodeInfo → Truth
 has_its_type node = agree (has_type node.kind) (is_some node.ty)
 
--- just lists have keys: at least one, each another leaf that is its child
+-- exactly lists have keys: at least one, each another leaf that is its child
 abbrev pub has_its_keys : SchemaTable → ℕ → NodeInfo → Truth
 has_its_keys table n node =
     (agree (is_list node.kind) (not (is_empty node.keys)) && all_differ nat_eq node.keys)
@@ -90,7 +90,7 @@ is_good_identity table i identity =
 abbrev pub lie_within : ℤ → ℤ → List Part → Truth
 lie_within low high range = list_all (λ (part : Part). int_le low part.low && int_le part.high high) range
 
--- whole numbers of so many bits
+-- whole numbers of this many bits
 abbrev pub lie_in_bits : ℕ → Truth → List Part → Truth
 lie_in_bits bits true range = lie_within (negsuc (2 ^ (bits - 1) - 1)) (pos (2 ^ (bits - 1) - 1)) range
 lie_in_bits bits false range = lie_within (pos 0) (pos (2 ^ bits - 1)) range
@@ -136,8 +136,8 @@ pub record IsSmall (table : SchemaTable) : Type 0 where
   pub modules : length table.modules < 2 ^ 32
   pub identities : length table.identities < 2 ^ 32
 
--- each name means one thing: of a module, and of an RPC, a notification and an identity of a module; and below each
--- data parent one node for data (the search goes through choices and cases)
+-- each name has one meaning: of a module, and of an RPC, a notification and an identity of a module; and below each
+-- data parent one data node (the search goes through choices and cases)
 pub record HasDistinctNames (table : SchemaTable) : Type 0 where
   pub modules : IsTrue (are_distinct (module_names table))
   pub identities : IsTrue (are_distinct (identity_names table))

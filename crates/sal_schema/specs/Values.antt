@@ -32,7 +32,7 @@ are_bits positions set = all_below (is_taken positions set) 64
 abbrev pub takes_identity : SchemaTable → List ℕ → ℕ → Truth
 takes_identity table bases i = nat_lt i (length table.identities) && list_all (is_derived table i) bases
 
--- The atom has the type's kind, lies in its range and has its length, or names an enum, bits or an identity that the type
+-- The atom has the type's kind, is in its range and has its length, or names an enum, bits or an identity that the type
 -- takes. The type is no union.
 abbrev pub is_of_layer : SchemaTable → YangType-F YangType → Atom → Truth
 is_of_layer table (YangType-F.Int bits signed range) (Signed n) = signed && holds range n

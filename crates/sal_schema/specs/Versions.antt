@@ -1,4 +1,4 @@
--- Versions of a schema: the table of an earlier one begins that of a later one.
+-- Versions of a schema: the table of an earlier one is a prefix of that of a later one.
 use Rattle.std.specs.Prelude.{◌≡◌, List, ◌++◌, take, drop, length, IsTrue}
 use Rattle.sal_types.specs.declared.value.Step.{Step}
 use Rattle.sal_types.specs.declared.row.Row.{Row}
@@ -7,12 +7,12 @@ use Rattle.sal_schema.specs.Fitting.{fits}
 use Rattle.sal_schema.specs.Paths.{fits_path}
 use Rattle.sal_schema.specs.Valid.{IsTable}
 
--- The list begins with this front. So a look-up at a number of the front answers the same in both.
+-- The front is a prefix of the list. So a look-up at a number of the front has the same result in both.
 abbrev pub BeginsWith : {X : Type 0} → List X → List X → Type 0
 BeginsWith xs front = take (length front) xs ≡ front
 
--- The newer table extends the older one: nodes, types, modules and identities of the older table keep their numbers and all that it says
--- of them. New children follow the old ones, and a name may be found that the older table lacks.
+-- The newer table extends the older one: nodes, types, modules and identities of the older table keep their numbers and their
+-- properties. New children follow the old ones, and a name may be found that the older table lacks.
 pub record Extends (newer older : SchemaTable) : Type 0 where
   pub nodes : BeginsWith newer.nodes older.nodes
   pub types : BeginsWith newer.types older.types
@@ -46,7 +46,7 @@ RowsStay = (newer older : SchemaTable) (path : List Step) (rows : List Row) → 
 abbrev pub on : {X : Type 0} → List X → List X → List X
 on front whole = front ++ drop (length front) whole
 
--- The lines of the older table, then those of the whole table that have new numbers, in each of the four lists.
+-- The lines of the older table, then those of the whole table with new numbers, in each of the four lists.
 abbrev pub table_on : SchemaTable → SchemaTable → SchemaTable
 table_on older whole = record {
   nodes = on older.nodes whole.nodes;

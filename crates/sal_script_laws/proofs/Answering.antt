@@ -1,4 +1,4 @@
--- What one more entry does to the answered log of a load.
+-- The answered log of a load with one more entry.
 use Rattle.std.proofs.Common.{◌≡◌, ℕ, ◌+◌, Bool, false, ◌||◌, List, [], ◌∷◌, ◌++◌, length, ap, ◌∙◌, arith, append-nil, length-append}
 use Rattle.std.specs.List.{fold}
 use Rattle.std.specs.Option.{option_to_list}

@@ -1,4 +1,4 @@
--- What the tree has after rounds: the entries that they put, and nothing else.
+-- The tree after rounds: exactly the entries that they put.
 use Rattle.std.proofs.Common.{◌≡◌, ℕ, suc, zero, Bool, false, List, [], ◌∷◌, ◌++◌, length, take, refl, ap, ◌∙◌}
 use Rattle.std.specs.Prelude.{nat_eq}
 use Rattle.std.specs.List.{list_any}
@@ -20,7 +20,7 @@ use Rattle.sal_script_laws.specs.Rounds.{HasNoList, IsAbsent, Round, commit_of, 
 use Rattle.sal_script_laws.proofs.Entries.{apart, not_list}
 use Rattle.sal_script_laws.proofs.Placing.{none-tree_of}
 
--- where a test passes no row of the tree and none of the put's, it passes none after the put
+-- if no row of the tree and none of the put passes a test, none passes it after the put
 one-none : (q : List Step → Bool) (tree : List Row) (key value : ℕ)
     → list_any (λ row. q row.path) tree ≡ false → list_any (λ row. q row.path) (rows key value) ≡ false
     → list_any (λ row. q row.path) (apply_ops tree Config (put_of key value ∷ [])) ≡ false

@@ -42,7 +42,7 @@ pub put-rows : (tree : List Row) (key value : ℕ) → IsAscending tree → has 
 put-rows tree key value rising new =
     apply_ops-unique tree Config (put_of key value ∷ []) (with_rows tree (rows key value)) (IsAscending-with_rows tree (rows key value) rising) (cell-put tree key value new)
 
--- the three rows are at places of their own
+-- the three rows are at different places
 are_new : (tree : List Row) (key value : ℕ) → has tree (entry key) ≡ false → AreNew tree (rows key value)
 are_new tree key value new = (first, (second, (none (entry key ++ Node 2 ∷ []) (is_prefix-append (entry key) (Node 2 ∷ [])), tt)))
   where

@@ -57,7 +57,7 @@ done_rounds n [] [] = refl
 done_rounds n [] (sub ∷ pend) = refl
 done_rounds n (sub ∷ dec) pend = ap (λ (cs : List (List Op)). commit_of sub.round ∷ cs) (done_rounds (n + 1) dec pend)
 
--- what is of no chain fails by none
+-- a submission without a chain does not fail by a receipt
 failing_none : (n : ℕ) (ss : List Sent) (os : List Outcome) → failing_from n None ss os ≡ None
 failing_none n [] os = refl
 failing_none n (s ∷ ss) [] = refl
@@ -114,7 +114,7 @@ module _ (decided : IsDecided) (answered : List Answered) where
       ∙ decided (rounds_of dec) sub.front its_spans sub.round.key sub.round.value new
       ∙ ap Done long
 
-  -- submissions, the first ones decided, and so many more
+  -- submissions: the decided ones, and `n` more
   pub record AreDecided (dec pend : List Sub) (n : ℕ) : Type 0 where
     pub done : List Sub
     pub left : List Sub

@@ -1,4 +1,4 @@
--- The rows of an entry lie at it and below it, each at a place of its own, and so apart from those of other entries.
+-- The rows of an entry are at it and below it, each at its own place, and so disjoint from the rows of other entries.
 use Rattle.std.proofs.Common.{◌≡◌, ℕ, false, List, [], ◌∷◌, ◌++◌, refl, ap}
 use Rattle.std.specs.Prelude.{not, nat_eq}
 use Rattle.std.specs.List.{list_any}
@@ -39,7 +39,7 @@ third_node path = 0
 other_entry : (key other : ℕ) (rest : List Step) → nat_eq other key ≡ false → is_prefix (entry key) (entry other ++ rest) ≡ false
 other_entry key other rest e = false_from_ne_true _ (λ h. eqb-false other key e (ap key_at (IsPrefix-from_test (entry key) (entry other ++ rest) h).1))
 
--- none of an entry's rows lies at another entry or below it
+-- none of an entry's rows is at another entry or below it
 pub apart : (key other value : ℕ) → nat_eq other key ≡ false → has (rows other value) (entry key) ≡ false
 apart key other value e = rw (other_entry key other [] e) refl
 
@@ -47,7 +47,7 @@ apart key other value e = rw (other_entry key other [] e) refl
 pub not_list : (key value : ℕ) → list_any (λ row. path_eq (Node 0 ∷ []) row.path) (rows key value) ≡ false
 not_list key value = refl
 
--- all of them lie at the entry or below it
+-- all of them are at the entry or below it
 pub at_entry : (key value : ℕ) → list_any (λ row. not (is_prefix (entry key) row.path)) (rows key value) ≡ false
 at_entry key value = rw (is_prefix-append (entry key) []) refl
 

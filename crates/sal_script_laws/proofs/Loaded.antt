@@ -99,8 +99,8 @@ module _ (start : ℕ) (phases : Phases) (rounds : List Round) (was : ArePut sta
 
 -- ---- the log
 
--- The submissions of the log are those of the rounds, in some order; the first ones are done, and each of the others is held by a
--- client that is to settle it. No transaction of a later place is spent.
+-- The submissions of the log are those of the rounds, in some order; the first ones are done, and for each of the others a client that
+-- is going to settle has its receipt. No transaction of a later place is spent.
 pub record IsLoaded (start : ℕ) (answered : List Answered) (phases : Phases) : Type 0 where
   pub dec : List Sub
   pub pend : List Sub
@@ -114,7 +114,7 @@ pub record IsLoaded (start : ℕ) (answered : List Answered) (phases : Phases) :
 pub commits_are : (start : ℕ) (answered : List Answered) (phases : Phases) (was : IsLoaded start answered phases) → commits answered 0 ≡ commits_of (rounds_of was.dec)
 commits_are start answered phases was = (λ i. done_ops 0 (was.given i) (was.told i)) ∙ done_rounds 0 was.dec was.pend
 
--- as many receipts as submissions
+-- there are as many receipts as submissions
 pub receipts_are : (start : ℕ) (answered : List Answered) (phases : Phases) (was : IsLoaded start answered phases) → length (sents answered) ≡ length (was.dec ++ was.pend)
 receipts_are start answered phases was = ap length was.given ∙ length-map (was.dec ++ was.pend) sent_of
 
@@ -134,7 +134,7 @@ module _ (start : ℕ) (answered : List Answered) (phases : Phases) (was : IsLoa
   longer : (e : Entry) → length (more_of answered e) ≡ length answered + 1
   longer e = length-append answered (now_of answered e ∷ [])
 
-  -- a call that spends nothing
+  -- a call that spends no transaction
   unspent_still : (e : Entry) → ((place : ℕ) → length answered < place → spends e.call (reply_to load_world answered e.client e.call) place ≡ false)
       → (place : ℕ) → length (more_of answered e) ≤ place → is_spent (more_of answered e) place ≡ false
   unspent_still e kept place behind =

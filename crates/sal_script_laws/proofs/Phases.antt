@@ -71,18 +71,18 @@ four_more f g more (suc (suc zero)) h lt = omega (arith, lt, more 0, more 1, mor
 four_more f g more (suc (suc (suc zero))) h lt = omega (arith, lt, more 0, more 1, more 2)
 four_more f g more (suc (suc (suc (suc c)))) h lt = absurd (omega (arith, h))
 
--- ---- receipts that are held
+-- ---- receipts that clients have
 
 -- one of the four is to settle the receipt
 abbrev pub IsHeld : Phases → ℕ → Type 0
 IsHeld phases n = (c : ℕ) × (c < 4) × (receipt_of (phases c) ≡ Some n)
 
--- it is held by another client
+-- another client has it
 pub held_still : (phases : Phases) (c : ℕ) (phase : Phase) (n : ℕ) → (receipt_of (phases c) ≡ Some n → ⊥) → IsHeld phases n → IsHeld (set_phase c phase phases) n
 held_still phases c phase n other held =
     (held.0, held.1, ap receipt_of (set_other c held.0 phase phases (λ same. other (ap (λ d. receipt_of (phases d)) (sym same) ∙ held.2))) ∙ held.2)
 
--- one, where the receipt is at most this number
+-- 1 if the receipt is at most this number, else 0
 abbrev up_to : ℕ → Option ℕ → ℕ
 up_to b None = 0
 up_to b (Some n) = if nat_le n b then 1 else 0

@@ -1,4 +1,4 @@
--- Rows that are set in a tree where it has nothing are more rows of it.
+-- Rows set in a tree at free places are additional rows of it.
 use Rattle.std.proofs.Common.{◌≡◌, ℕ, ◌+◌, Bool, true, false, ◌||◌, List, [], ◌∷◌, length, Option, Some, None, refl, ap, ◌∙◌, arith, if◌then◌else◌}
 use Rattle.std.specs.Prelude.{sum_by}
 use Rattle.std.specs.List.{list_any}
@@ -16,7 +16,7 @@ use Rattle.sal_rows.specs.Edits.{set_row}
 use Rattle.sal_rows.proofs.Cells.{cell-set_row, IsAscending-set_row}
 use Rattle.sal_rows.proofs.Untouched.{or_first, or_second}
 
--- ---- what no row passes
+-- ---- tests that no row passes
 
 none-set_row : (q : List Step → Bool) (tree : List Row) (row : Row) → q row.path ≡ false → list_any (λ x. q x.path) tree ≡ false → list_any (λ x. q x.path) (set_row tree row) ≡ false
 none-set_row q [] row out none = ap (λ b. b || false) out
@@ -58,7 +58,7 @@ pub IsAscending-with_rows : (tree rows : List Row) → IsAscending tree → IsAs
 IsAscending-with_rows tree [] h = h
 IsAscending-with_rows tree (row ∷ rows) h = IsAscending-set_row (with_rows tree rows) row (IsAscending-with_rows tree rows h)
 
--- no two of the rows have one path, and the tree has nothing there
+-- the paths of the rows differ, and the tree has no row at or below them
 abbrev pub AreNew : List Row → List Row → Type 0
 AreNew tree [] = Unit {0}
 AreNew tree (row ∷ rows) = (option_or (cell rows row.path) (cell tree row.path) ≡ None) × AreNew tree rows

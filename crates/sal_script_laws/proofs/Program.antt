@@ -18,7 +18,7 @@ use Rattle.sal_script.specs.Moves.{Move, Put, Submit, Settle}
 use Rattle.sal_script.specs.Play.{Client, Open, accept_unless, arrive, arrive_by, calls, local, meet, putting, replied, seen_by, set_slot, settle, write_act, write_at, write_with}
 use Rattle.sal_script_laws.specs.Rounds.{DataIsRead, IsAccepted, PathIsRead, load_world, put_of}
 
--- so many rounds of a client, from this one on
+-- this many rounds of a client, from this one on
 abbrev pub rounds_from : ℕ → ℕ → ℕ → ℕ → List Move
 rounds_from start client round zero = []
 rounds_from start client round (suc left) = round_of (key_of client round) (value_in start client round) ++ rounds_from start client (suc round) left

@@ -38,7 +38,7 @@ leafs key value =
     ∷ record { path = entry key ++ Node 2 ∷ []; cell = Leaf (number value) }
     ∷ []
 
--- what is read of the two leafs, where their values are read so
+-- the result for the two leafs, if their values have these results
 abbrev leaf_by : List Step → Result Value ScalarFault → Reading
 leaf_by path read = at_path path read >>= λ value. Ok (record { path = path; cell = Leaf value } ∷ [])
 

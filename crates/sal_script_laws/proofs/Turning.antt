@@ -24,7 +24,7 @@ use Rattle.sal_script_laws.proofs.Phases.{Phase, begun, calls_by, put_by, ready,
 use Rattle.sal_script_laws.proofs.Program.{after_put, put_arrives, put_step, rounds_from, settle_arrives}
 use Rattle.sal_script_laws.proofs.Standing.{IsAt, Keeps, SpendsOwn, advance}
 
--- What holds of the rounds of a load.
+-- Known properties of the rounds of a load.
 pub record AreKnown : Type 0 where
   pub decided : IsDecided
   pub accepted : IsAccepted
@@ -45,7 +45,7 @@ module _ (known : AreKnown) (rounds start : ℕ) (few : rounds ≤ 10000) (low :
   within : c < 4
   within = omega (arith, slice_get_within state.runs c run at, was.size)
 
-  -- where a run comes by its call
+  -- the run after its call
   abbrev after : Call → Move → Run → Run
   after call step r =
       let answer : Reply = reply load_world state.log (entry call) in

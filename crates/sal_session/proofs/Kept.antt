@@ -29,7 +29,7 @@ module _ (old : Option Clients) (c : ℕ) (bytes : List ℕ) (new : Session) (n 
   pub steps_open : (was it : Clients) (result : Result (List ℕ) StepFault) → old ≡ Some was → Steps was it c bytes result → new.broker ≡ kept result it → n ≡ step_number result → new.reply ≡ text_of result → StepsIf old c bytes new n
   steps_open was it result is steps broker number text = subst (λ (o : Option Clients). StepsIf o c bytes new n) (sym is) (result, it, steps, broker, number, text)
 
--- what a fault leaves
+-- the broker after a fault
 pub kept_by : (fault : StepFault) (it : Clients) → kept (Err fault) it ≡ (if is_broken fault then None else Some it)
 kept_by Broken it = refl
 kept_by BadStep it = refl

@@ -74,7 +74,7 @@ pub unescape-spaces : (n : ℕ) (t : List ℕ) → unescape (replicate n 32 ++ t
 unescape-spaces zero t = refl
 unescape-spaces (suc n) t = unescape-plain_byte 32 (replicate n 32 ++ t) refl ∙ ap (λ r. 32 ∷ r) (unescape-spaces n t)
 
--- what stands behind the bytes before the first backslash is a backslash
+-- the byte after the bytes before the first backslash is a backslash
 pub plain_len-stops : (t : List ℕ) → 0 < length (drop (plain_len t) t) → get_or (drop (plain_len t) t) 0 0 ≡ 92
 plain_len-stops t h =
     let within : plain_len t < length t = omega (arith, h, length-drop (plain_len t) t) in

@@ -131,7 +131,7 @@ unfolding double
 double-end whole opening [] = refl
 double-end whole opening (c ∷ rest) = refl
 
--- what the reader does at a byte that stands for itself, and at a pair
+-- the reader at a byte that is read as itself, and at an escaped pair
 double-plain : (whole : Text) (opening c : ℕ) (t : Text) (p : List ℕ × Text) → is_plain c ≡ true → double whole opening t ≡ Ok p → double whole opening (c ∷ t) ≡ Ok (c ∷ p.0, p.1)
 unfolding double
 double-plain whole opening c [] p plain h = failed _ h

@@ -1,4 +1,4 @@
--- What stands between quotes, from one byte to the next.
+-- The content of quotes, from one byte to the next.
 use Rattle.std.proofs.Common.{◌≡◌, ℕ, zero, suc, ◌+◌, ◌-◌, ◌<◌, false, not, ◌==◌, List, [], ◌∷◌, ◌++◌, length, take, drop, get_or, Ok, Err, if◌then◌else◌, refl, sym, ap, ◌∙◌, inl, inr, arith, length-drop, get_or-drop, append_assoc}
 use Rattle.std.proofs.lemmas.Bool.{cases_Bool}
 use Rattle.std.proofs.lemmas.Bool.Decides.{nat_tests}
@@ -74,7 +74,7 @@ take_two t i h =
 pub take_one : (t : Text) (i : ℕ) → i < length t → take i t ++ get_or t i 0 ∷ [] ≡ take (i + 1) t
 take_one t i h = sym (take_more t i 0 h)
 
--- one more string behind a `+`
+-- one more string after a `+`
 pub joined_at : (whole : Text) (statement n : ℕ) (t : Text) → 0 < n
     → joined whole statement n t ≡ (within whole statement t >>= λ here.
     if not (first here == 43) then Ok ([], here)

@@ -1,15 +1,15 @@
--- What a double-quoted string stands for: its lines, trimmed, with their escapes replaced (RFC 7950 section 6.1.3).
--- White space before a line break goes, and that at the head of a later line up to and including the column of the opening
+-- The value of a double-quoted string: its lines, trimmed, with their escapes replaced (RFC 7950 section 6.1.3).
+-- White space before a line break is removed, and that at the start of a later line up to and including the column of the opening
 -- quote. Trimming comes before escapes, and CR LF is read as LF.
 use Rattle.std.specs.Prelude.{ℕ, ◌+◌, ◌-◌, Bool, not, ◌&&◌, ◌||◌, ◌==◌, nat_lt, nat_le, if◌then◌else◌, List, [], ◌∷◌, ◌++◌, length, take, drop, slice_index, replicate, sum_by}
 use Rattle.std.specs.List.{slice_split, prefix_len, suffix_len}
 use Rattle.sal_stmt.specs.Words.{◌∈◌}
 
--- Columns count characters, and eight for a tab. A byte from 128 to 191 goes on with a character.
+-- Columns count characters, and eight for a tab. A byte from 128 to 191 continues a character (UTF-8).
 abbrev pub columns : ℕ → ℕ
 columns c = if c == 9 then 8 else if nat_le 128 c && nat_lt c 192 then 0 else 1
 
--- how many columns the last line of a text has
+-- the number of columns of the last line of a text
 abbrev pub last_line_len : List ℕ → ℕ
 last_line_len text = suffix_len (λ c. not (c == 10)) text
 
@@ -22,7 +22,7 @@ is_space c = c == 32 || c == 9
 abbrev pub is_escape : ℕ → Bool
 is_escape d = d ∈ "nt\"\\"
 
--- what an escape stands for, by its letter
+-- the character of an escape, by its letter
 abbrev pub escaped : ℕ → ℕ
 escaped d = if d == 110 then 10 else if d == 116 then 9 else d
 
@@ -41,7 +41,7 @@ blank_end_len t = suffix_len is_space t
 abbrev pub trim_end : List ℕ → List ℕ
 trim_end t = take (length t - blank_end_len t) t
 
--- Without its leading spaces and tabs, as far as this width goes. A tab counts as eight, and what is left of it stays as spaces.
+-- Without its leading spaces and tabs, up to this width. A tab counts as eight; the part of it beyond the width stays as spaces.
 unfoldable pub without_indent : ℕ → List ℕ → List ℕ
 without_indent width [] = []
 without_indent width (c ∷ t) =
@@ -58,13 +58,13 @@ without_return t = if slice_index t (length t - 1) == 13 then take (length t - 1
 abbrev pub line_len : List ℕ → ℕ
 line_len t = prefix_len (λ c. not (c == 10)) t
 
--- The lines from one on, the first of them with this indentation and the later ones with that.
+-- The lines from one on: the first of them with this indentation, the later ones with that.
 unfoldable pub join_lines : ℕ → ℕ → List (List ℕ) → List ℕ
 join_lines indent later [] = []
 join_lines indent later (line ∷ []) = unescape (without_indent indent line)
 join_lines indent later (line ∷ next ∷ lines) =
     unescape (without_indent indent (trim_end (without_return line))) ++ 10 ∷ join_lines later later (next ∷ lines)
 
--- What stands between the quotes, of which the first has this many columns before it.
+-- The value of the text between the quotes. `column` is the number of columns before the opening quote.
 unfoldable pub content : ℕ → List ℕ → List ℕ
 content column raw = join_lines 0 (column + 1) (slice_split (λ c. c == 10) raw)

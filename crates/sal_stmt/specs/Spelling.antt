@@ -1,6 +1,6 @@
--- What a text spells: one statement, as a grammar, apart from any way of reading it (RFC 7950 sections 6.1 to 6.3).
--- A relation says that a text begins with something, and which text follows it. A gap needs no word on where it ends:
--- behind it stands a word, a string, a `+`, a `;` or a brace, and none of these begins a separator.
+-- The grammar of statements, without a reader (RFC 7950 sections 6.1 to 6.3).
+-- A relation says that a text begins with some form, and which text follows it. A gap has no rule for its end:
+-- after it comes an unquoted string, a quote, a `+`, a `;` or a brace, and none of these begins a separator.
 use Rattle.std.specs.Prelude.{◌≡◌, ℕ, zero, suc, ◌<◌, Bool, true, false, not, ◌&&◌, ◌||◌, ◌==◌, List, [], ◌∷◌, ◌++◌, length, take, Option, Some, None, Ok, ◌⊎◌, ⊤, codes}
 use Rattle.std.specs.List.{list_all}
 use Rattle.sal_stmt.specs.declared.stmt.Stmt.{Stmt}
@@ -10,11 +10,11 @@ use Rattle.sal_stmt.specs.Text.{place, made, read}
 
 -- ---- gaps
 
--- what stands in a line comment
+-- the text of a line comment
 abbrev pub IsLine : List ℕ → Type 0
 IsLine text = list_all (λ c. not (is_control c) && not (c == 10)) text ≡ true
 
--- the text ends here, or the line
+-- the text or the line ends here
 abbrev pub ends_line : Text → Bool
 ends_line t = is_empty t || first t == 10
 
@@ -22,11 +22,11 @@ abbrev pub has_comment_end : List ℕ → Bool
 has_comment_end [] = false
 has_comment_end (c ∷ t) = ends_block_comment (c ∷ t) || has_comment_end t
 
--- what stands in a block comment
+-- the text of a block comment
 abbrev pub IsComment : List ℕ → Type 0
 IsComment text = (list_all (λ c. not (is_control c)) text ≡ true) × (has_comment_end text ≡ false)
 
--- A line comment leaves its line break.
+-- A line comment does not include its line break.
 pub data Separator (t rest : Text) : Type 0 where
   blank : (c : ℕ) → is_blank c ≡ true → t ≡ c ∷ rest → Separator t rest
   line : (text : List ℕ) → IsLine text → ends_line rest ≡ true → t ≡ codes "//" ++ (text ++ rest) → Separator t rest
@@ -37,30 +37,30 @@ pub data Gap : Text → Text → Type 0 where
   no_gap : (t : Text) → Gap t t
   wider : (t next rest : Text) → Separator t next → Gap next rest → Gap t rest
 
--- ---- words
+-- ---- unquoted strings
 
--- The word stands before this text: at no byte of it a word ends, and it ends before the text.
+-- The unquoted string is before `rest`: no byte of it ends the string, and the string ends at `rest`.
 abbrev pub IsWord : List ℕ → Text → Type 0
 IsWord [] rest = ends_word rest ≡ true
 IsWord (c ∷ word) rest = (ends_word (c ∷ word ++ rest) ≡ false) × IsWord word rest
 
 -- ---- strings
 
--- what stands in single quotes
+-- the text in single quotes
 abbrev pub IsSingle : List ℕ → Type 0
 IsSingle raw = list_all (λ c. not (is_control c) && not (c == 39)) raw ≡ true
 
 abbrev pub is_plain : ℕ → Bool
 is_plain c = (not (is_control c) && not (c == 34)) && not (c == 92)
 
--- what stands in double quotes: bytes for themselves, and backslashes each with the letter of an escape
+-- the text in double quotes: plain bytes, and each backslash with the letter of an escape
 abbrev pub IsDouble : List ℕ → Type 0
 IsDouble [] = ⊤
 IsDouble (c ∷ []) = is_plain c ≡ true
 IsDouble (c ∷ d ∷ raw) = ((is_plain c ≡ true) × IsDouble (d ∷ raw)) ⊎ ((c ≡ 92) × (is_escape d ≡ true) × IsDouble raw)
 
 module _ (whole : Text) where
-  -- a string in quotes, and what it stands for
+  -- a string in quotes, and its value
   pub data IsString (t : Text) (text : List ℕ) (rest : Text) : Type 0 where
     single : IsSingle text → t ≡ codes "'" ++ (text ++ (codes "'" ++ rest)) → IsString t text rest
     double : (raw : List ℕ) → IsDouble raw → t ≡ codes "\"" ++ (raw ++ (codes "\"" ++ rest))
@@ -76,7 +76,7 @@ module _ (whole : Text) where
     word : 0 < length text → IsWord text rest → t ≡ text ++ rest → IsArgument t text rest
     strings : AreStrings t text rest → IsArgument t text rest
 
-  -- what stands behind a keyword, up to the `;` or `{`
+  -- the text after a keyword, up to the `;` or `{`
   abbrev pub HasArgument : Text → Option (List ℕ) → Text → Type 0
   HasArgument t None rest = Gap t rest
   HasArgument t (Some text) rest = (here : Text) × (after : Text) × Gap t here × IsArgument here text after × Gap after rest
@@ -97,13 +97,13 @@ module _ (whole : Text) where
     pub is_head : IsHead t head (codes ";" ++ rest)
     pub same : stmt ≡ made (place whole t) head []
 
-  -- statements of one kind, and the `}` behind them
+  -- statements of one kind, and the `}` after them
   pub data AreStatements (IsOne : Text → Stmt → Text → Type 0) : Text → List Stmt → Text → Type 0 where
     no_statement : (t rest : Text) → Gap t (codes "}" ++ rest) → AreStatements IsOne t [] rest
     one_statement : (t here : Text) (stmt : Stmt) (after : Text) (stmts : List Stmt) (rest : Text)
         → Gap t here → IsOne here stmt after → AreStatements IsOne after stmts rest → AreStatements IsOne t (stmt ∷ stmts) rest
 
-  -- a statement with a block, in which statements of that kind stand
+  -- a statement with a block of statements of that kind
   pub record IsBlock (IsOne : Text → Stmt → Text → Type 0) (t : Text) (stmt : Stmt) (rest : Text) : Type 0 where
     pub head : List ℕ × Option (List ℕ)
     pub block : Text
@@ -112,12 +112,12 @@ module _ (whole : Text) where
     pub are_subs : AreStatements IsOne block subs rest
     pub same : stmt ≡ made (place whole t) head subs
 
-  -- a statement, in which this many blocks may be opened in one another
+  -- a statement, with at most this many nested blocks
   abbrev pub IsStatement : ℕ → Text → Stmt → Text → Type 0
   IsStatement zero t stmt rest = IsPlain t stmt rest
   IsStatement (suc levels) t stmt rest = IsPlain t stmt rest ⊎ IsBlock (IsStatement levels) t stmt rest
 
--- The text is this statement, with gaps before and behind it.
+-- The text is this statement, with gaps before and after it.
 pub record Spells (text : Text) (stmt : Stmt) : Type 0 where
   pub here : Text
   pub after : Text
@@ -125,7 +125,7 @@ pub record Spells (text : Text) (stmt : Stmt) : Type 0 where
   pub statement : IsStatement text 64 here stmt after
   pub behind : Gap after []
 
--- ---- what the grammar and the reader have to do with one another
+-- ---- how the grammar and the reader agree
 
 abbrev pub ReadIsSpelled : Type 0
 ReadIsSpelled = (text : Text) (stmt : Stmt) → read text ≡ Ok stmt → Spells text stmt

@@ -1,6 +1,6 @@
 -- From a text to its one statement, or to the first fault with its place (RFC 7950 section 6).
--- A definition takes what is still to read, and gives what it read and the text after it. The place of a fault is how many
--- bytes of the whole text stand before what is left, so no definition counts bytes.
+-- A definition takes the remaining text, and gives what it read and the text after it. The offset of a fault is the length of the
+-- whole text minus that of the remaining text, so no definition counts bytes.
 use Rattle.std.specs.Prelude.{ℕ, zero, suc, ◌-◌, Bool, not, ◌||◌, ◌==◌, if◌then◌else◌, List, [], ◌∷◌, length, take, drop, Option, Some, None, Result, Ok, Err}
 use Rattle.sal_stmt.specs.declared.fault.StmtFault.{StmtFault}
 use Rattle.sal_stmt.specs.declared.fault.StmtFault.TheVariants.{BadToken, BadEscape, Unclosed, TooDeep, TextAfter, NoMemory}
@@ -23,7 +23,7 @@ is_end t = first t ∈ ";{"
 abbrev pub starts_token : Text → Bool
 starts_token t = first t ∈ ";{}'\"" || not (is_empty (word t))
 
--- how many parts can be joined in a text, and one more
+-- the largest number of strings that can be joined in a text, and one more
 abbrev pub turns : Text → ℕ
 turns t = suc (length t)
 
@@ -35,13 +35,13 @@ abbrev pub made : ℕ → List ℕ × Option (List ℕ) → List Stmt → Stmt
 made at head subs = roll-Stmt (record { keyword = head.0; arg = head.1; at = at; subs = subs })
 
 module _ (whole : Text) where
-  -- how many bytes stand before what is still to read
+  -- the byte offset of the remaining text
   abbrev pub place : Text → ℕ
   place t = length whole - length t
 
   -- ---- separators
 
-  -- what follows a line comment, from inside it
+  -- the text after a line comment, from inside it
   unfoldable pub line_comment : Text → Result Text StmtFault
   line_comment [] = Ok []
   line_comment (c ∷ t) =
@@ -49,7 +49,7 @@ module _ (whole : Text) where
       else if is_control c then Err (BadToken (place (c ∷ t)))
       else line_comment t
 
-  -- what follows a block comment that was opened at this place
+  -- the text after a block comment that was opened at this offset
   unfoldable pub block_comment : ℕ → Text → Result Text StmtFault
   block_comment opening [] = Err (Unclosed opening)
   block_comment opening (c ∷ t) =
@@ -69,7 +69,7 @@ module _ (whole : Text) where
   abbrev pub skip : Text → Result Text StmtFault
   skip t = separators (length t) t
 
-  -- after separators inside the statement that stands at this place
+  -- after separators inside the statement at this offset
   unfoldable pub within : ℕ → Text → Result Text StmtFault
   within statement t = do
     here ← skip t
@@ -77,7 +77,7 @@ module _ (whole : Text) where
 
   -- ---- strings
 
-  -- what stands before the closing quote
+  -- the raw text before the closing quote
   unfoldable pub single : ℕ → Text → Read (List ℕ)
   single opening [] = Err (Unclosed opening)
   single opening (c ∷ t) =
@@ -105,7 +105,7 @@ module _ (whole : Text) where
         (raw, after) ← double (place t) (drop 1 t)
         Ok (content (last_columns (take (place t) whole)) raw, after))
 
-  -- After a string: at most n more, each behind a `+`.
+  -- After a string: at most n more, each after a `+`.
   unfoldable pub joined : ℕ → ℕ → Text → Read (List ℕ)
   joined statement zero t = Err (BadToken (place t))
   joined statement (suc n) t = do
@@ -138,7 +138,7 @@ module _ (whole : Text) where
           (text, rest) ← argument (place t) here
           if is_end rest then Ok ((word t, Some text), rest) else Err (BadToken (place rest))))
 
-  -- The statements of the block that was opened at this place, and its `}`. At most n of them: the length of the text is always enough.
+  -- The statements of the block that was opened at this offset, and its `}`. At most n of them: the length of the text is always enough.
   unfoldable pub statements : (Text → Read Stmt) → ℕ → ℕ → Text → Read (List Stmt)
   statements statement opening zero t = Err (Unclosed opening)
   statements statement opening (suc n) t = do
@@ -150,7 +150,7 @@ module _ (whole : Text) where
           (others, rest) ← statements statement opening n after
           Ok (s ∷ others, rest))
 
-  -- a statement, in which this many blocks may still be opened in one another
+  -- a statement, with at most this many nested blocks
   unfoldable pub statement : ℕ → Text → Read Stmt
   unfolding statements
   statement zero t = do
@@ -173,6 +173,6 @@ read whole = do
         else if starts_token rest then Err (TextAfter (place whole rest))
         else Err (BadToken (place whole rest)))
 
--- What a function returned, seen by view, is what the definition gives, unless memory ran out.
+-- The result, seen by `view`, equals the definition's value or fault, unless memory ran out.
 abbrev pub Gives : {X Y : Type 0} → (X → Y) → Result X StmtFault → Result Y StmtFault → Type 0
 Gives = GivesUnless NoMemory

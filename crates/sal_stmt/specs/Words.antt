@@ -1,10 +1,10 @@
--- The bytes of YANG text, and the words that stand unquoted (RFC 7950 sections 6.1.2, 6.1.3 and 6.2).
+-- The bytes of YANG text, and unquoted strings (RFC 7950 sections 6.1.2, 6.1.3 and 6.2).
 use Rattle.std.specs.Prelude.{ℕ, suc, ◌+◌, Bool, false, not, ◌&&◌, ◌||◌, ◌==◌, nat_lt, if◌then◌else◌, List, [], ◌∷◌, length, take, drop, slice_index, codes}
 use Rattle.std.specs.List.{list_all, prefix_len}
 use Rattle.std.specs.Char.{is_ascii_alphabetic, is_ascii_alphanumeric}
 use Prim.Native.String.{String}
 
--- the bytes that are still to read
+-- the remaining bytes
 abbrev pub Text : Type 0
 Text = List ℕ
 
@@ -47,7 +47,7 @@ starts_block_comment t = starts_with 47 42 t
 abbrev pub ends_block_comment : Text → Bool
 ends_block_comment t = starts_with 42 47 t
 
--- A word ends before a blank, a control character, a quote, `;`, a brace, and `//`, `/*` or `*/`.
+-- An unquoted string ends before white space, a control character, a quote, `;`, a brace, and `//`, `/*` or `*/`.
 abbrev pub ends_word : Text → Bool
 ends_word t =
     ((((is_blank (first t) || is_control (first t)) || first t ∈ "\"';{}") || starts_line_comment t) || starts_block_comment t) || ends_block_comment t
@@ -56,7 +56,7 @@ unfoldable pub word_len : Text → ℕ
 word_len [] = 0
 word_len (c ∷ t) = if ends_word (c ∷ t) then 0 else suc (word_len t)
 
--- the longest word at the front, and what follows it
+-- the longest unquoted string at the front, and the text after it
 abbrev pub word : Text → Text
 word t = take (word_len t) t
 

@@ -89,7 +89,7 @@ lighter (grown x s k ks rest) (d ∷ cs) (suc i) c same l at =
     let h = lighter rest cs i c (ap tail_of same) (omega arith) at in
     omega arith
 
--- a child with its step stands within the height of its node
+-- a child with its step is within the height of its node
 pub lower-child : (n : ℕ) (f : Forest) (cs : List (Bor Child)) (i : ℕ) (c : Bor Child) → height f ≤ n → seen cs ≡ pairs f → i < length cs → c ≡ get_or cs i c → height c.now.node.value.kids + 1 ≤ n
 lower-child n bare [] i c h same l at = absurd (omega arith)
 lower-child n bare (d ∷ cs) i c h same l at = cc

@@ -192,6 +192,6 @@ has-rows_in (grown x s c ks rest) h y p =
       | false ↦ λ t. refl
     ] refl
 
--- a tree has a path where a node with rows stands there
+-- a tree has a path if there is a node with rows at it
 pub has-rows_of : (t : Tree) → IsGrove t.kids → (p : List Step) → has (rows_of t) p ≡ present (at (Some t) p)
 has-rows_of t h p = has-node t p h (has-rows_in t.kids h)

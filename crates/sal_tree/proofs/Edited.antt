@@ -1,4 +1,4 @@
--- What one edit does to each path: the cells, and which nodes get the stamp.
+-- The effect of one edit at each path: the cells, and which nodes get the stamp.
 use Rattle.std.proofs.Common.{◌≡◌, ℕ, Bool, true, false, List, [], ◌∷◌, ◌++◌, ◌&&◌, ◌||◌, Option, Some, None, refl, ap, sym, ◌∙◌, subst, if◌then◌else◌}
 use Rattle.std.specs.Prelude.{T}
 use Rattle.std.specs.FinMap.{find}
@@ -34,7 +34,7 @@ stamped-root_of : (s : ℕ) (o : Option Tree) → ((n : Tree) → o ≡ Some n �
 stamped-root_of s None h n e = sym (ap (λ (k : Tree). k.stamp) (some_same _ _ e))
 stamped-root_of s (Some t) h n e = h n e
 
--- a node on the way to the end of a grown path, the end included
+-- a node on the path to the end of a grown path, or at the end
 stamped-grow : (s : ℕ) (o : Option Tree) (q r : List Step) (new : Option Tree) → IsSound o → ((n : Tree) → new ≡ Some n → n.stamp ≡ s) → (n : Tree) → at (grow s o (q ++ r) new) q ≡ Some n → n.stamp ≡ s
 stamped-grow s o q [] new h last n e = last n (sym (at-through s o q [] new h) ∙ e)
 stamped-grow s o q (x ∷ r) new h last n e = stamped-standing s _ _ n (sym (at-through s o q (x ∷ r) new h) ∙ e)
@@ -107,7 +107,7 @@ clears p t q = (is_prefix p q && present (at (Some t) q)) || (is_prefix q p && p
 cleared_above : (s : ℕ) (t : Tree) (p q : List Step) → IsGrove t.kids → is_prefix q p ≡ true → (n : Tree) → at (Some (root_of s (grow s (Some t) p None))) q ≡ Some n → n.stamp ≡ s
 cleared_above s t p q h e = stamped-grown s t p q None h (λ n f. cc) e
 
--- nothing stands below the end of a cleared path
+-- there is no node below the end of a cleared path
 pub cleared_below : (s : ℕ) (t : Tree) (p : List Step) (x : Step) (q : List Step) → IsGrove t.kids → is_prefix p (x ∷ q) ≡ true → at (Some (root_of s (grow s (Some t) p None))) (x ∷ q) ≡ None
 cleared_below s t p x q h e =
     let w = IsPrefix-from_test p (x ∷ q) e in
@@ -148,7 +148,7 @@ clears-none p t q e =
     and_no true = refl
     and_no false = refl
 
--- a path cleared, where something stands there
+-- a path cleared, if there is a node at it
 Follows-cleared : (s : ℕ) (t : Tree) (p : List Step) → IsGrove t.kids → present (at (Some t) p) ≡ true → Follows (exactly s) (clears p t) t (root_of s (grow s (Some t) p None))
 Follows-cleared s t p h there = record {
   stamped = λ q n e stands. elim (is_prefix q p) as (λ b. is_prefix q p ≡ b → n.stamp ≡ s) [

@@ -1,4 +1,4 @@
--- Trees made one after another, and what their stamps tell.
+-- Trees made one after another, and what follows from their stamps.
 use Rattle.std.proofs.Common.{◌≡◌, ℕ, Bool, true, false, List, ◌||◌, Some, refl, sym, ◌∙◌}
 use Rattle.sal_types.specs.declared.value.Step.{Step}
 use Rattle.sal_node.specs.Tree.{Tree}

@@ -1,4 +1,4 @@
--- How far nodes stand below the first one, before and after an edit.
+-- The depths of nodes, before and after an edit.
 use Rattle.std.proofs.Common.{◌≡◌, ℕ, suc, ◌+◌, ◌-◌, ◌≤◌, true, false, List, [], ◌∷◌, length, Option, Some, None, refl, sym, subst, cond, arith}
 use Rattle.std.specs.FinMap.{find, put}
 use Rattle.std.specs.FinMap.Entries.{by_order}
@@ -15,7 +15,7 @@ use Rattle.sal_tree.proofs.Laws.{eq}
 use Rattle.sal_tree.proofs.Edited.{sound-with_row, sound-cleared}
 use Rattle.sal_node.proofs.Entries.{Entries}
 
--- no node stands more than n steps below
+-- no node is deeper than n
 abbrev pub IsLow : ℕ → Option Tree → Type 0
 IsLow n None = Unit {0}
 IsLow n (Some t) = height t.kids ≤ n
@@ -86,7 +86,7 @@ low-root_of : (n s : ℕ) (o : Option Tree) → IsLow n o → height (root_of s 
 low-root_of n s None h = omega arith
 low-root_of n s (Some t) h = h
 
--- the tree with a node grown at a path, where the old tree stood so low
+-- the tree with a node grown at a path, if the old tree was at most this deep
 pub low-grown : (s : ℕ) (t : Tree) (p : List Step) (new : Option Tree) → height t.kids ≤ 32 → length p ≤ 32 → IsLow (32 - length p) new → height (root_of s (grow s (Some t) p new)).kids ≤ 32
 low-grown s t p new h l g = low-root_of 32 s _ (low-grow 32 (32 - length p) s (Some t) p new (omega arith) h g)
 
@@ -102,7 +102,7 @@ whole-cleared s t p h l = record { ordered = sound-cleared s t p h.ordered; low 
 pub whole-as : (n m : Tree) → n ≡ m → IsWhole m → IsWhole n
 whole-as n m e h = subst IsWhole (sym e) h
 
--- how far nodes stand below the one at a path
+-- the depths of nodes below the one at a path
 pub low-node : (t : Tree) (p : List Step) (k : Tree) → IsWhole t → length p ≤ 32 → at (Some t) p ≡ Some k → height k.kids + length p ≤ 32
 low-node t p k h l e =
     let g : height k.kids ≤ 32 - length p = subst (IsLow (32 - length p)) e (low-at 32 (32 - length p) (Some t) p (omega arith) h.low) in

@@ -1,4 +1,4 @@
--- What stamps tell over commits made one after another.
+-- What follows from stamps over commits made one after another.
 use Rattle.std.proofs.Common.{◌≡◌, ◌≢◌, inl, ℕ, true, false, List, [], ◌∷◌, ◌||◌, Some, refl, ap, sym, ◌∙◌, subst, if◌then◌else◌}
 use Rattle.sal_types.specs.declared.value.Step.{Step}
 use Rattle.sal_types.specs.declared.value.Store.{Store}
@@ -18,12 +18,12 @@ stamp-last s before t (d ∷ ds) p h was = stamp-last s (if touches (rows_of t) 
       | false ↦ λ e. was n (sym (h.0.kept p e) ∙ stands)
     ] refl)
 
--- What no commit touched is the same node.
+-- A node that no commit touched is the same.
 pub untouched-same : (s : Store) (t : Tree) (ds : List Done) (p : List Step) → IsHistory s t ds → is_touched s t ds p ≡ false → at (Some (newest t ds)) p ≡ at (Some t) p
 untouched-same s t [] p h e = refl
 untouched-same s t (d ∷ ds) p h e = untouched-same s d.tree ds p h.1 (or_right (touches (rows_of t) s d.ops p) _ e) ∙ h.0.kept p (or_left _ (is_touched s d.tree ds p) e)
 
--- What a commit touched has a stamp of one of the commits.
+-- A node that a commit touched has the stamp of one of the commits.
 last-fresh : (s : Store) (stamp : ℕ) (before : List ℕ) (t : Tree) (ds : List Done) (p : List Step) → ¬ (IsOneOf before stamp) → IsFresh stamp ds → ¬ (IsOneOf (last_stamps s before t ds p) stamp)
 last-fresh s stamp before t [] p other fresh = other
 last-fresh s stamp before t (d ∷ ds) p other fresh = last-fresh s stamp (if touches (rows_of t) s d.ops p then d.stamps else before) d.tree ds p (elim (touches (rows_of t) s d.ops p) as (λ b. ¬ (IsOneOf (if b then d.stamps else before) stamp)) [ true ↦ fresh.0 | false ↦ other ]) fresh.1
@@ -36,7 +36,7 @@ touched-last s stamp before t (d ∷ ds) p fresh =
       | false ↦ λ e. touched-last s stamp before d.tree ds p fresh.1 e
     ]
 
--- A path that is present before and after the commits has one stamp at both exactly where no commit touched it.
+-- A path that is present before and after the commits has the same stamp exactly if no commit touched it.
 pub same_stamp-untouched : (s : Store) (t : Tree) (ds : List Done) (p : List Step) (n m : Tree) → IsHistory s t ds → at (Some t) p ≡ Some n → at (Some (newest t ds)) p ≡ Some m → IsFresh n.stamp ds →
     (is_touched s t ds p ≡ false → n.stamp ≡ m.stamp) × (is_touched s t ds p ≡ true → m.stamp ≢ n.stamp)
 same_stamp-untouched s t ds p n m h a b fresh = (

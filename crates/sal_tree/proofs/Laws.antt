@@ -1,4 +1,4 @@
--- What stands where in a grown tree.
+-- The nodes of a grown tree by their paths.
 use Rattle.std.proofs.Common.{◌≡◌, ℕ, Bool, true, false, List, [], ◌∷◌, ◌++◌, ◌&&◌, Option, Some, None, refl, ap, sym, ◌∙◌, subst, cond}
 use Rattle.std.specs.Prelude.{T}
 use Rattle.std.specs.Ordering.{is_eq, is_lt, eq_by_cmp}
@@ -142,7 +142,7 @@ pub full-grow : (s : ℕ) (o : Option Tree) (p : List Step) (new : Option Tree) 
 full-grow s o [] new h g = g
 full-grow s o (x ∷ p) new h g = full-standing s (cell_in o) _ (sorted-change x _ (kids_in o) (sorted-kids o h)) (full-change x _ (kids_in o) (full-grow s (kid o x) p new (sound-kid o x h) g) (full-kids o h))
 
--- what stands where
+-- nodes by their paths
 kids-standing : (s : ℕ) (c : Option Cell) (es : Entries) → kids_in (standing s c es) ≡ es
 kids-standing s None [] = refl
 kids-standing s None (e ∷ es) = pairs-grove (e ∷ es)
@@ -167,7 +167,7 @@ and_rest : (b c : Bool) → b ≡ true → (b && c) ≡ false → c ≡ false
 and_rest true c e f = f
 and_rest false c e f = cc
 
--- beside the path, what stood there
+-- at other paths, the node that was there
 pub at-beside : (s : ℕ) (o : Option Tree) (p q : List Step) (new : Option Tree) → IsSound o → is_prefix p q ≡ false → is_prefix q p ≡ false → at (grow s o p new) q ≡ at o q
 at-beside s o [] q new h a b = cc
 at-beside s o (x ∷ p) [] new h a b = cc

@@ -1,4 +1,4 @@
--- A tree with a node built of rows in place of what stood at a path.
+-- A tree with a node built from rows in place of the one at a path.
 use Rattle.std.proofs.Common.{◌≡◌, ℕ, ◌<◌, ◌≤◌, Bool, true, false, List, [], ◌∷◌, ◌++◌, ◌&&◌, ◌||◌, length, drop, Some, None, refl, ap, sym, ◌∙◌, subst, if◌then◌else◌, append_assoc, arith}
 use Rattle.std.specs.List.{list_all}
 use Rattle.std.specs.Ordering.{is_eq, ordering_then}
@@ -61,7 +61,7 @@ and_second : (a b : Bool) → (a && b) ≡ true → b ≡ true
 and_second true b e = e
 and_second false b e = cc
 
--- the part of a path behind one that it begins with
+-- the rest of a path after a prefix
 rest_of : (p r : List Step) → is_prefix p r ≡ true → r ≡ p ++ drop (length p) r
 rest_of p r e = let w = IsPrefix-from_test p r e in w.1 ∙ ap (λ v. p ++ v) (sym (drop_front p w.0) ∙ ap (drop (length p)) (sym w.1))
 
@@ -78,7 +78,7 @@ has-behind p w (row ∷ rows) h =
     (λ i. is_prefix (p ++ w) (rest_of p row.path (and_first _ _ h) i) || has-behind p w rows (and_second (is_prefix p row.path) _ h) i)
     ∙ ap (λ b. b || has (from_depth (length p) rows) w) (prefix_behind p w (drop (length p) row.path))
 
--- no row stands beside the path, and one stands below each path above it
+-- no row is at or below a path that is neither prefix nor extension of this one, and each prefix of it has a row below
 beside-rows : (p q : List Step) (rows : List Row) → AllUnder p rows → is_prefix p q ≡ false → is_prefix q p ≡ false → has rows q ≡ false
 beside-rows p q [] h a b = refl
 beside-rows p q (row ∷ rows) h a b = (λ i. none (is_prefix q row.path) refl i || beside-rows p q rows (and_second (is_prefix p row.path) _ h) a b i)
@@ -112,7 +112,7 @@ module _ (s : ℕ) (t : Tree) (p : List Step) (row : Row) (rest : List Row) (b :
   pub whole-put : height t.kids ≤ 32 → length p ≤ 32 → IsWhole (root_of s (grow s (Some t) p (Some b)))
   whole-put low l = record { ordered = sound-put; low = low-grown s t p (Some b) low l (let g = built.low in omega arith) }
 
-  -- at the path and below it stands what was built
+  -- at the path and below it are the built nodes
   at-put : (p w : List Step) → at (Some (root_of s (grow s (Some t) p (Some b)))) (p ++ w) ≡ at (Some b) w
   at-put [] w = refl
   at-put (x ∷ p) w = at-root_of s (grow s (Some t) (x ∷ p) (Some b)) x (p ++ w) ∙ at-append (grow s (Some t) (x ∷ p) (Some b)) (x ∷ p) w ∙ ap (λ o. at o w) (at-end s (Some t) (x ∷ p) (Some b) h)
@@ -141,7 +141,7 @@ module _ (s : ℕ) (t : Tree) (p : List Step) (row : Row) (rest : List Row) (b :
   pub rows-put : (store : Store) → rows_of (root_of s (grow s (Some t) p (Some b))) ≡ apply_ops (rows_of t) store (one_op store p (Put (row ∷ rest)))
   rows-put store = apply_ops-unique (rows_of t) store (one_op store p (Put (row ∷ rest))) (rows_of u) (ascending-rows_of u sound-put) (λ q. cell-put q ∙ cell-one_op store p (Put (row ∷ rest)) (rows_of t) q)
 
-  -- nothing stands where no row is put and none stood
+  -- there is no node where no row is put and none was before
   none_built : (q : List Step) → is_prefix p q ≡ true → has (row ∷ rest) q ≡ false → at (Some b) (drop (length p) q) ≡ None
   none_built q e f = present-full (at (Some b) (drop (length p) q)) (full-at (Some b) (drop (length p) q) full)
       (sym (has-rows_of b built.ordered (drop (length p) q)) ∙ ap (λ l. has l (drop (length p) q)) built.listed ∙ sym (ap (has (row ∷ rest)) (rest_of p q e) ∙ has-behind p (drop (length p) q) (row ∷ rest) all_under) ∙ f)
@@ -183,7 +183,7 @@ module _ (s : ℕ) (t : Tree) (p : List Step) (row : Row) (rest : List Row) (b :
       (λ q. ap (λ c. has (row ∷ rest) q || c) (clears-any t p q (λ r. act_setting p (Put (row ∷ rest)) r) (λ r. set_by_put (is_prefix p r) (cell (row ∷ rest) r)) h))
       (record { stamped = stamped_at; kept = kept_at })
 
--- What a put of rows makes of a tree.
+-- The tree after a put of rows.
 pub record IsPut (s : ℕ) (t : Tree) (p : List Step) (rows : List Row) (v : Tree) : Type 0 where
   pub whole : IsWhole v
   pub cells : (q : List Step) → cell (rows_of v) q ≡ cell_by (act_setting p (Put rows) q) (cell (rows_of t) q)

@@ -1,4 +1,4 @@
--- Rows that begin with one step, and those behind them.
+-- Rows whose paths have the same first step, and the rows after them.
 use Rattle.std.proofs.Common.{◌≡◌, ℕ, suc, zero, ◌+◌, ◌<◌, ◌≤◌, Bool, true, false, List, [], ◌∷◌, ◌++◌, length, take, drop, Some, None, refl, ap, sym, ◌∙◌, subst, if◌then◌else◌, arith}
 use Rattle.std.specs.Prelude.{T}
 use Rattle.std.specs.Ordering.{is_lt, is_eq, ordering_then}
@@ -68,7 +68,7 @@ first-others (row ∷ rows) = by_path row.path row.cell rows
     by_path [] c rest = refl
     by_path (x ∷ p) c rest = refl
 
--- no row stands at the empty path
+-- no row is at the empty path
 abbrev pub AllBelow : List Row → Type 0
 AllBelow [] = Unit {0}
 AllBelow (row ∷ rows) = (is_root row.path ≡ false) × AllBelow rows
@@ -127,7 +127,7 @@ after-drop zero x rows h = h
 after-drop (suc n) x [] h = tt
 after-drop (suc n) x (row ∷ rows) h = after-drop n x rows h.1
 
--- what is behind a path that begins with a later step begins with one
+-- rows after a path with a later first step have a later first step
 after-behind : (x y : Step) (q : List Step) (rows : List Row) → step_cmp x y ≡ Less → Behind (y ∷ q) rows → AllAfter x rows
 after-behind x y q [] l h = tt
 after-behind x y q (row ∷ rows) l h = (by_path row.path (first _ (below_all path_cmp (y ∷ q) (entries rows)) h), after-behind x y q rows l (behind-rest (y ∷ q) row rows h))
@@ -140,7 +140,7 @@ after-behind x y q (row ∷ rows) l h = (by_path row.path (first _ (below_all pa
       | Greater ↦ λ e g. absurd g
     ] refl h
 
--- behind a path that begins with x, the rows after the run of x begin with later steps
+-- after a path that begins with x, the rows after the run of x have later first steps
 run-behind : (x : Step) (p : List Step) (rows : List Row) → Behind (x ∷ p) rows → Rising rows → AllAfter x (drop (leading x rows) rows)
 run-behind x p [] h g = tt
 run-behind x p (row ∷ rows) h g = elim (begins x row.path) as (λ b. begins x row.path ≡ b → AllAfter x (drop (if b then 1 + leading x rows else 0) (row ∷ rows))) [

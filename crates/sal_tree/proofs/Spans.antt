@@ -1,4 +1,4 @@
--- Equal stamps at both ends of a span say that a path is unchanged.
+-- With equal stamps at both ends of a span a path is unchanged.
 use Rattle.std.proofs.Common.{◌≡◌, ◌≢◌, ℕ, Bool, true, false, List, ◌∷◌, ◌&&◌, ◌==◌, Option, Some, None, refl, ap, sym, ◌∙◌, if◌then◌else◌, arith}
 use Rattle.std.specs.Prelude.{not, T}
 use Rattle.std.proofs.lemmas.Bool.Decides.{nat_tests}

@@ -1,4 +1,4 @@
--- What an edit stamps is what its operation touches.
+-- An edit stamps exactly the paths that its operation touches.
 use Rattle.std.proofs.Common.{◌≡◌, ℕ, Bool, true, false, List, [], ◌∷◌, ◌&&◌, ◌||◌, Option, Some, None, refl, ap, sym, ◌∙◌, if◌then◌else◌}
 use Rattle.std.specs.Prelude.{is_some}
 use Rattle.std.specs.List.{list_any}
@@ -125,7 +125,7 @@ absorbed rows before q = elim (has rows q) as (λ b. has rows q ≡ b → (b || 
       | false ↦ λ c. none l b
     ] refl
 
--- the rows of an act lie below its path, as far as the act asks
+-- the rows of an act are below its path, as each act requires
 abbrev pub IsLawful : List Step → Act → Type 0
 IsLawful p (Put rows) = under rows p ≡ rows
 IsLawful p (Merge rows) = Unit {0}

@@ -25,7 +25,7 @@
 //! | call | cost, for a path of d steps and lists of n entries on the way |
 //! |---|---|
 //! | `Root::get`, `Root::exists`, `is_alike` | d binary searches, no memory |
-//! | `Root::delete`, `Root::put`, each row of `Root::merge` | d nodes, each with copies of a page, of a sheet, and of n / 4,096 references to sheets |
+//! | `Root::delete`, `Root::put`, each row of `Root::merge` | d nodes, each with copies of a page, a sheet, and n / 4,096 references to sheets |
 //! | the rows of `Root::put` | one node for each path, as for `Root::from_rows` |
 //! | `Root::from_rows` | one node for each path, and d looks at each row |
 //! | `Root::rows` | linear in the rows below the path |

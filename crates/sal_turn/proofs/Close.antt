@@ -1,4 +1,4 @@
--- What the rule says of a lock that is closed.
+-- The rule of a lock that is closed.
 use Rattle.std.proofs.Common.{◌≡◌, ℕ, true, true≢false, List, [], refl, sym, ap, ◌∙◌, subst, Option, Some, None}
 use mathlib.Core.Option.{some, none, some-injective, some-ne-none}
 use mathlib.Core.Option as maybe
@@ -19,7 +19,7 @@ module _ {V E G : Type 0} (entries : V → List E) (client : E → ℕ) (ground 
   abbrev Rule : State (Option V) (View E G) → Type 0
   Rule = LockRule entries client ground
 
-  -- what a closed lock gives
+  -- the result of closing a lock
   pub record Closes (v : View E G) (x : V) : Type 0 where
     pub seen : IsPrefix v.seen (entries x)
     pub grounded : v.ground ≡ Some (ground x)
@@ -63,7 +63,7 @@ module _ {V E G : Type 0} (entries : V → List E) (client : E → ℕ) (ground 
       turned_lives (HasTurn n es) e = tt
       turned_lives (Compares es) e = tt
 
-  -- close: the value lies in the slot
+  -- close: the value is in the slot
   pub closes : (id : ℕ) (v : View E G) (ws : List ℕ) (xs : List (Option V)) → v.stage ≡ Idle → v.splits ≡ true → ((k : ℕ) → In k v.given → AnswersFor v k) → Final (Seen Rule id v) ws xs → (x : V) × (get_elem? xs 0 ≡ some (Some x)) × Closes v x
   closes id v ws xs idle may whole h =
       let s = h.0 in

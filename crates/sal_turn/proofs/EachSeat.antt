@@ -1,4 +1,4 @@
--- What holds of each seat, once the view of one changed, or a new one came.
+-- Properties of each seat, after the view of one changed, or after a new one was added.
 use Rattle.std.proofs.Common.{◌≡◌, ◌≢◌, ℕ, zero, suc, List, [], ◌∷◌, ◌++◌, length, set, refl, sym, ◌∙◌, subst, inl, inr, ⊎_elim}
 use mathlib.Core.Option.{some, some-injective, some-ne-none}
 use lib.ListN.{get_elem?}
@@ -10,7 +10,7 @@ use Rattle.sal_turn.specs.Views.{AnswersFor}
 use Rattle.sal_turn.proofs.Lists.{at_end}
 
 module _ {W : Type 0} where
-  -- what holds of each seat holds of each after one changed
+  -- a property of each seat is one of each after one changed
   pub seats_stay : (K : ℕ → W → Type 0) (vs : List W) (me : ℕ) (w : W) → K me w → ((j : ℕ) (d : W) → j ≢ me → get_elem? vs j ≡ some d → K j d) → (j : ℕ) (d : W) → get_elem? (set vs me w) j ≡ some d → K j d
   seats_stay K vs me w mine others j d e = ⊎_elim (λ (t : (j ≡ me) × (w ≡ d)). subst (λ (x : ℕ × W). K x.0 x.1) (λ i. (sym t.0 i, t.1 i)) mine)
       (λ (t : (j ≢ me) × (get_elem? vs j ≡ some d)). others j d t.0 t.1) (at_set vs me j w d e)
@@ -20,7 +20,7 @@ module _ {W : Type 0} where
   one_seat only K h zero d g = subst (K 0) (some-injective only d g) h
   one_seat only K h (suc j) d g = absurd (some-ne-none d (sym g))
 
-  -- what holds of each seat and of a new one holds of each
+  -- a property of each seat and of a new one is one of each
   pub ends_stay : (K : ℕ → W → Type 0) (vs : List W) (w : W) → K (length vs) w → ((j : ℕ) (d : W) → get_elem? vs j ≡ some d → K j d) → (j : ℕ) (d : W) → get_elem? (vs ++ w ∷ []) j ≡ some d → K j d
   ends_stay K vs w mine others j d e = ⊎_elim (λ (t : get_elem? vs j ≡ some d). others j d t) (λ (t : (j ≡ length vs) × (w ≡ d)). subst (λ (x : ℕ × W). K x.0 x.1) (λ i. (sym t.0 i, t.1 i)) mine) (at_end vs w d j e)
 

@@ -26,7 +26,7 @@ module _ {V E G : Type 0} (entries : V → List E) (client : E → ℕ) (ground 
   same_ticket : (a b : ℕ) (st : Stage E) → st ≡ Waits a → st ≡ Waits b → a ≡ b
   same_ticket a b st p q = some-injective a b (sym (ap ticket p) ∙ ap ticket q)
 
-  -- what a look that finds the turn tells
+  -- a look that finds the turn
   pub hits : (slots t r own : ℕ) (m m1 : Me (Option V) (View E G)) → m.1 ≡ [] → m.0.stage ≡ Waits t → t % 2 ^ 64 ≡ own → r ≡ own → LookTells entries client ground (step slots 1 0 0 none) m r m1
       → (x : V) × (m1 ≡ (at_stage (HasTurn t (entries x)) m.0, (0, Some x) ∷ [])) × FitsSeat entries client ground x m.0
   hits slots t r own m m1 none_out waits low hit l =

@@ -39,7 +39,7 @@ module _ {V E G : Type 0} (entries : V → List E) (client : E → ℕ) (ground 
   unfolding number_or
   number_there vs id v e = ap number_or e
 
-  -- the seats with a ticket have numbers of their own, of 32 bits
+  -- the seats with a ticket have different numbers, of 32 bits
   pub few : (s : State (Option V) (View E G)) (r : Rule s) → length r.queue ≤ 2 ^ 32
   few s r =
       let f : ℕ → ℕ = number_at s.views in

@@ -1,4 +1,4 @@
--- What the own entries of a seat are after a turn.
+-- The own entries of a seat after a turn.
 use Rattle.std.proofs.Common.{◌≡◌, ℕ, List, [], ◌∷◌, ◌++◌, length, drop, inl, inr, refl, ap, sym, ◌∙◌, append-nil, arith}
 use Rattle.std.proofs.lemmas.List.{drop_all, drop_at}
 use Rattle.sal_turn.specs.Entries.{Leaves}

@@ -27,7 +27,7 @@ module _ {A : Type 0} where
   below (x ∷ xs) zero a e = omega arith
   below (x ∷ xs) (suc i) a e = let h = below xs i a e in omega arith
 
-  -- the last is at the place that is the length of what stands before it
+  -- the last element of a longer list has the length of the list before as its index
   pub at_end : (l : List A) (a b : A) (i : ℕ) → get_elem? (l ++ a ∷ []) i ≡ some b → (get_elem? l i ≡ some b) ⊎ ((i ≡ length l) × (a ≡ b))
   at_end [] a b zero e = inr (refl, some-injective a b e)
   at_end [] a b (suc i) e = absurd (some-ne-none b (sym e))
@@ -87,7 +87,7 @@ module _ {E : Type 0} (client : E → ℕ) where
   pub by_none : (k : ℕ) (e : E) → client e ≢ k → entries_by client k (e ∷ []) ≡ []
   by_none k e ne = ap (λ (b : Bool). cond b (e ∷ []) []) (ne_eqb (client e) k ne)
 
-  -- what a turn of one number adds is not of another
+  -- an entry that a turn of one number adds is not of another number
   pub by_other : (k me : ℕ) (found now : List E) → k ≢ me → AddsAtMostOne client me found now → entries_by client k now ≡ entries_by client k found
   by_other k me found now ne adds = ⊎_elim (λ (e : now ≡ found). ap (entries_by client k) e)
       (λ (h : (e : E) × (client e ≡ me) × (now ≡ found ++ e ∷ [])).

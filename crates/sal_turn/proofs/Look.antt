@@ -1,4 +1,4 @@
--- Looking at the turn served keeps the rule, and takes the value where the turn has come.
+-- A look at the turn served keeps the rule, and takes the value if the turn has come.
 use Rattle.std.proofs.Common.{◌≡◌, ℕ, ◌+◌, ◌%◌, ◌^◌, ◌<◌, ◌≤◌, true≢false, List, length, get_or, set, refl, sym, ap, ◌∙◌, subst, arith, Option, Some, None}
 use lib.Seq.{set-get_or}
 use mathlib.Core.Option.{some, none, some-injective, some-ne-none}
@@ -29,7 +29,7 @@ module _ {V E G : Type 0} (entries : V → List E) (client : E → ℕ) (ground 
   word_1 : (s : State (Option V) (View E G)) (r : Rule s) → get_or s.words 1 0 ≡ r.served % 2 ^ 64
   word_1 s r = ap (λ ws. get_or ws 1 0) r.words_are
 
-  -- what the rule says of a seat stays while the value goes out
+  -- the rule of a seat stays when the value is taken out
   knows_out : (served : ℕ) (queue : List ℕ) (present : List E) (home : maybe.Option (Option V)) (j : ℕ) (st : Stage E) → StageRule entries client ground served queue present home j st → StageRule entries client ground served queue present none j st
   knows_out served queue present home j Spent k = tt
   knows_out served queue present home j Idle k = tt

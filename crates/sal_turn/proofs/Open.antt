@@ -15,7 +15,7 @@ module _ {V E G : Type 0} (entries : V → List E) (client : E → ℕ) (ground 
   abbrev Rule : State (Option V) (View E G) → Type 0
   Rule = LockRule entries client ground
 
-  -- open: nobody has a ticket, and the value has no entries
+  -- open: no seat has a ticket, and the value has no entries
   pub begins : (k : ℕ) (x : V) → entries x ≡ [] → k < 2 ^ 32 → Rule (opening (0 ∷ 0 ∷ []) (Some x ∷ []) (opener k (ground x)))
   begins k x none_yet small =
       let only : View E G = opener k (ground x) in

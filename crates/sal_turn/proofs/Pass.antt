@@ -35,7 +35,7 @@ module _ {V E G : Type 0} (entries : V → List E) (client : E → ℕ) (ground 
   knows_next served queue present now home home' me j first other more (HasTurn t found) k = absurd (other (one_there queue 0 j me k.1 first))
   knows_next served queue present now home home' me j first other more (Compares l) k = prefix_trans l present now k more
 
-  -- what holds of a seat holds once an entry of another number was added
+  -- a property of a seat holds after an entry of another number was added
   fits_next : (present now : List E) (world : G) (all : List ℕ) (boss j me : ℕ) (d : View E G) → AddsAtMostOne client me present now → d.number ≢ me → ((k : ℕ) (es : List E) → In (k, es) d.joined → k ≢ me)
       → SeatRule entries client ground present world all boss j d → SeatRule entries client ground now world all boss j d
   fits_next present now world all boss j me d adds other others f = record {

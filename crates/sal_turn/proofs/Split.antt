@@ -27,7 +27,7 @@ module _ {V E G : Type 0} (entries : V → List E) (client : E → ℕ) (ground 
   lies_more present world queue vs more (some None) l = l
   lies_more present world queue vs more none l = (l.0, l.1, l.2, at_longer vs more l.0 l.1 l.3, l.4)
 
-  -- a number is put into the view, and no word changes
+  -- a number is put into the view, and no cell of the table changes
   pub tells : (slots id k : ℕ) (me : Me (Option V) (View E G)) → me.0.stage ≡ Idle → Allows Rule slots id me 0 (λ n. either (n == k) k n) (NameTells entries client ground (step slots 0 k k none) me)
   tells slots id k me idle s r len here fits =
       let v = me.0 in

@@ -1,4 +1,4 @@
--- What the rule says of the value and of tickets stays where another seat changes.
+-- The rule of the value and of tickets stays true when another seat changes.
 use Rattle.std.proofs.Common.{◌≡◌, ℕ, ◌+◌, false, true≢false, List, set, refl, sym, ap, ◌∙◌, subst, Option, Some, None}
 use mathlib.Core.Option.{some, none, some-injective, some-ne-none}
 use mathlib.Core.Option as maybe

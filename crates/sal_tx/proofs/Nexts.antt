@@ -114,7 +114,7 @@ AreLawful-more table base earlier (o ∷ ops) op lawful may = (
       ((may e).0, ap (λ os. refusal table (apply_ops (rows_in base op.store) op.store os) op) (append_assoc earlier (o ∷ []) ops) ∙ (may e).1)),
 )
 
--- ---- rows that fit lie under their path
+-- ---- rows that fit are under their path
 
 and_left : (a b : Bool) → (a && b) ≡ true → a ≡ true
 and_left true b h = refl
@@ -134,14 +134,14 @@ all_lie table p all (row ∷ rows) h =
 pub lie_under : (table : SchemaTable) (p : List Step) (rows : List Row) → IsTrue (fits table p rows) → under rows p ≡ rows
 lie_under table p rows h = filter-all (λ (row : Row). is_prefix p row.path) rows (all_lie table p rows rows h)
 
--- the rows of an act lie below its path if those of a write fit there
+-- the rows of an act are below its path if those of a write fit there
 lie_act : (table : SchemaTable) (p : List Step) (act : Act) → (is_read act ≡ false → IsTrue (fits table p (rows_of_act act))) → under (rows_of_act act) p ≡ rows_of_act act
 lie_act table p (Put rows) h = lie_under table p rows (h refl)
 lie_act table p (Merge rows) h = lie_under table p rows (h refl)
 lie_act table p Delete h = refl
 lie_act table p Read h = refl
 
--- the rows of lawful operations lie below their paths
+-- the rows of lawful operations are below their paths
 pub lie_below : (table : SchemaTable) (base : Pair) (earlier ops : List Op) → AreLawful table base earlier ops → LieBelow ops
 lie_below table base earlier [] l = tt
 lie_below table base earlier (op ∷ ops) l = (lie_act table op.path op.act (λ e. (l.0 e).0.rows), lie_below table base (earlier ++ op ∷ []) ops l.1)

@@ -15,7 +15,7 @@ position_from-take p xs i d h =
     let here : 0 + length (take i xs) ≡ i = omega (arith, length-take i xs) in
     ap (position_from p 0) (take_more xs i d h) ∙ position_from-last p 0 (take i xs) (get_or xs i d) ∙ rw here refl
 
--- ---- what stands at a first place
+-- ---- the element at a first place
 
 get-past : {X : Type 0} (p : X → Bool) (n : ℕ) (x : X) (xs : List X) (found : Option ℕ) → ((k : ℕ) → found ≡ Some k → n + 1 ≤ k)
     → option_and_then (λ k. slice_get (x ∷ xs) (k - n)) found ≡ option_and_then (λ k. slice_get xs (k - (n + 1))) found

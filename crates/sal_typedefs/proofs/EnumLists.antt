@@ -1,4 +1,4 @@
--- Names of an enumeration: where none has a fault their numbers differ and have 32 bits, so there are 2^32 at most.
+-- Names of an enumeration: if none has a fault their numbers differ and have 32 bits, so there are at most 2^32.
 use Rattle.std.proofs.Common.{◌≡◌, ℕ, zero, suc, ◌+◌, ◌-◌, ◌<◌, ◌≤◌, ℤ, pos, negsuc, neg_ℤ, ◌≤ℤ◌, List, [], ◌∷◌, ◌++◌, length, map, fold, drop, get_or, true, false, ◌||◌, ◌==◌, nat_le, Option, Some, None, is_some, unwrap_or, refl, ◌∙◌, sym, ap, inl, inr, arith, append-nil}
 use Rattle.std.specs.Prelude.{All, int_lt}
 use Rattle.std.specs.Int.{int_max}
@@ -56,7 +56,7 @@ stated-number (Some t) next h e = let form = yes-not (has_form Enums t) e in rw 
 not-greater : (n : ℤ) → int_lt (pos 2147483647) n ≡ false → n ≤ℤ pos 2147483647
 not-greater n e = grind (arith, ints)
 
--- what a good name tells of its number
+-- the number of a good name
 good-name : (before : List Entry) (stmt : Stmt) → is_bad Enums before stmt ≡ false
     → (has_number (number_of Enums before stmt) before ≡ false) × (number_of Enums before stmt ≤ℤ pos 2147483647) × (is_malformed Enums (text_of Enums stmt) ≡ false)
 good-name before stmt good =

@@ -1,4 +1,4 @@
--- A type that its statement alone restricts: what the statement rests on does not matter.
+-- A type that only its own statement restricts does not depend on the types below it.
 use Rattle.std.proofs.Common.{◌≡◌, ℕ, List, refl}
 use Rattle.sal_stmt.specs.declared.stmt.Stmt.{Stmt}
 use Rattle.sal_restrict.specs.declared.yang_type.YangType.{YangType}

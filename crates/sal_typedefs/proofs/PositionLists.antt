@@ -1,4 +1,4 @@
--- Positions of bits: where no bit has a fault, they are from 0 to 63.
+-- Positions of bits: without faults they are from 0 to 63.
 use Rattle.std.proofs.Common.{◌≡◌, ℕ, ℤ, pos, ◌≤ℤ◌, List, [], ◌∷◌, ◌++◌, map, fold, Bool, true, false, not, ◌&&◌, ◌||◌, ◌==◌, nat_le, Option, Some, None, is_some, unwrap_or, refl, ◌∙◌, sym, inl, inr, arith, append-nil}
 use Rattle.std.specs.Prelude.{All, int_lt}
 use Rattle.std.specs.Int.{int_max}
@@ -103,7 +103,7 @@ pub positions-none : (layer : Layer) → HasPositions layer []
 positions-none (YangType-F.Bits names positions) = All-nil IsPosition
 positions-none layer = tt
 
--- the names that a statement lists, where none has a fault
+-- the names that a statement lists, if none has a fault
 pub positions-listed : (base : Base) (m : ℕ) (stmt : Stmt) (best : Option Found) (layer : Layer) → HasPositions layer base.entries
     → is_some (least best (flat_map (faults_by base m stmt) (option_to_list (numbering_of layer)))) ≡ false → HasPositions layer (entries_in base stmt layer)
 positions-listed base m stmt best (YangType-F.Bits names positions) has none = elim (cases_Bool (takes_all Bits base stmt)) [

@@ -81,7 +81,7 @@ sites-under (suc steps) modules site = ap (λ rest. site ∷ rest) (sites-each (
 filter-first : {X : Type 0} (p : X → Bool) (x : X) (xs : List X) → filter p (x ∷ xs) ≡ filter p (x ∷ []) ++ filter p xs
 filter-first p x xs = elim (cases_Bool (p x)) [ inl e ↦ rw e refl | inr e ↦ rw e refl ]
 
--- the first of those that pass goes behind those before
+-- the first one that passes goes after those before
 pub passing-more : {X Y : Type 0} (f : X → Y) (p : X → Bool) (done next : List Y) (x : X) (xs : List X) → next ≡ done ++ map f (filter p (x ∷ []))
     → done ++ map f (filter p (x ∷ xs)) ≡ next ++ map f (filter p xs)
 passing-more f p done next x xs put =

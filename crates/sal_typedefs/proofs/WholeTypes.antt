@@ -1,4 +1,4 @@
--- Type statements that say all by their name have no faults, and mean the built-in type.
+-- Type statements without substatements have no faults, and denote the built-in type.
 use Rattle.std.proofs.Common.{◌≡◌, ◌∙◌, ℕ, zero, suc, List, [], ◌∷◌, ◌++◌, Bool, true, false, ◌&&◌, ◌==◌, length, Some, map, filter, find, option_map, unwrap_or, if◌then◌else◌, codes, nat_eq, refl, sym, ap, inl, inr, arith}
 use Rattle.std.specs.List.{flat_map, list_any}
 use Rattle.std.specs.Prelude.{is_none}

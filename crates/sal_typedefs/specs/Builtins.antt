@@ -32,7 +32,7 @@ builtin_of name = builtin_among names name
 
 -- ---- types
 
--- the numbers of so many bits, with a sign or without
+-- the numbers of this many bits, with a sign or without
 abbrev pub numbers_of : ℕ → Bool → List Part
 numbers_of bits true = record { low = neg_ℤ (pos (2 ^ (bits - 1))); high = pos (2 ^ (bits - 1) - 1) } ∷ []
 numbers_of bits false = record { low = pos 0; high = pos (2 ^ bits - 1) } ∷ []
@@ -46,7 +46,7 @@ bits_of width.Bits16 = 16
 bits_of width.Bits32 = 32
 bits_of width.Bits64 = 64
 
--- What a statement has to say is empty here: fraction digits, names, bases, members and the path.
+-- What a statement has to state is empty here: fraction digits, names, bases, members and the path.
 abbrev pub bare : Builtin → YangType-F YangType
 bare (type.Int width signed) = YangType-F.Int (bits_of width) signed (numbers_of (bits_of width) signed)
 bare type.Dec = YangType-F.Dec 0 (numbers_of 64 true)

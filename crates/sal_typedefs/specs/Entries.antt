@@ -45,7 +45,7 @@ integer t = if first t == 45 then neg_ℤ (pos (decimal (drop 1 t))) else pos (d
 abbrev pub text_of : Numbering → Stmt → Option (List ℕ)
 text_of n stmt = option_map argument_of (find (is_named (number_word n)) (subs_of stmt))
 
--- and the number, where it has the form
+-- and the number, if it has the form
 abbrev pub stated : Numbering → Option (List ℕ) → Option ℤ
 stated n None = None
 stated n (Some t) = if has_form n t then Some (integer t) else None
@@ -65,11 +65,11 @@ abbrev pub next : List Entry → ℤ
 next [] = pos 0
 next (e ∷ entries) = fold int_max e.number (map (λ (e : Entry). e.number) entries) +ℤ pos 1
 
--- no number is greater that a text gives, or that comes next behind so many names
+-- an upper bound of the numbers in texts, and of the next number after `count` names
 abbrev pub bound : ℕ → ℤ
 bound count = pos (4294967296 + count)
 
--- ---- a name of a type of its own
+-- ---- a name that the type itself defines
 
 abbrev pub number_of : Numbering → List Entry → Stmt → ℤ
 number_of n before stmt = unwrap_or (stated n (text_of n stmt)) (next before)
@@ -80,7 +80,7 @@ is_bad n before stmt =
     ((has_name (argument_of stmt) before || has_number (number_of n before stmt) before) || int_lt (greatest n) (number_of n before stmt))
     || is_malformed n (text_of n stmt)
 
--- ---- a name that another type has
+-- ---- a name chosen from another type
 
 abbrev pub named : List ℕ → List Entry → Option Entry
 named name entries = find (λ (e : Entry). same e.name name) entries
@@ -100,7 +100,7 @@ is_bad_choice n entries before stmt = has_name (argument_of stmt) before || diff
 
 -- ---- all names of a statement
 
--- The names are chosen from those of another type, or are the statement's own.
+-- The names are chosen from those of another type, or the statement defines them.
 abbrev pub entry_of : Numbering → Option (List Entry) → List Entry → Stmt → Entry
 entry_of n None before stmt = record { name = argument_of stmt; number = number_of n before stmt }
 entry_of n (Some entries) before stmt = unwrap_or (named (argument_of stmt) entries) (record { name = argument_of stmt; number = pos 0 })
@@ -118,7 +118,7 @@ entry_faults n from m before [] = []
 entry_faults n from m before (stmt ∷ stmts) =
     (if is_faulty n from before stmt then at_stmt BadRestriction m stmt else []) ++ entry_faults n from m (before ++ entry_of n from before stmt ∷ []) stmts
 
--- as the code has them
+-- in the code's form
 abbrev pub text_seen : Option (Bor (List ℕ)) → Option (List ℕ)
 text_seen text = option_map (λ (t : Bor (List ℕ)). t.now) text
 

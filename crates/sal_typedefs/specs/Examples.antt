@@ -1,4 +1,4 @@
--- Words for the examples.
+-- Names for the examples.
 use Rattle.std.specs.Prelude.{ℕ, None, List, [], ◌∷◌, ◌++◌, Option, Some, option_map}
 use Prim.Native.String.{String}
 use Rattle.sal_stmt.specs.declared.stmt.Stmt.{Stmt}
@@ -37,7 +37,7 @@ port = typedef 20 "port" (type_at 22 "uint16" (plain "range" 24 "1..4096" [] ∷
 abbrev pub letters : Stmt
 letters = typedef 20 "letter" (type_at 22 "enumeration" (enum 24 "x" ∷ enum 26 "y" ∷ []))
 
--- a leaf at 30 with this type at 32, behind these statements
+-- these statements, then a leaf at 30 with this type at 32
 abbrev pub with_leaf : List Stmt → String → List Stmt → List Stmt
 with_leaf stmts name subs = stmts ++ leaf 30 "a" (type_at 32 name subs) ∷ []
 
@@ -47,7 +47,7 @@ boolean = roll-YangType YangType-F.Bool
 abbrev pub empty : YangType
 empty = roll-YangType YangType-F.Empty
 
--- the fault of that leaf's type, where all names are good and it rests on one other type
+-- the fault of that leaf's type, if all names are defined and it depends on one other type
 abbrev pub leaf_fault : List Stmt → String → List Stmt → Option (Option Found)
 leaf_fault stmts name subs =
     option_map (λ site. least None (judge 2 (module_with (with_leaf stmts name subs) ∷ []) site).faults) (site_at (module_with (with_leaf stmts name subs) ∷ []) 0 32)
@@ -57,7 +57,7 @@ abbrev pub leaf_meaning : List Stmt → String → List Stmt → Option YangType
 leaf_meaning stmts name subs =
     option_map (λ site. (judge 3 (module_with (with_leaf stmts name subs) ∷ []) site).type) (site_at (module_with (with_leaf stmts name subs) ∷ []) 0 32)
 
--- the least fault of names of the type at a place, in two steps
+-- the least fault of names of the type at an offset, in two steps
 abbrev pub name_fault : List Stmt → ℕ → Option (Option Found)
 name_fault stmts at = option_map (λ site. least None (name_faults 2 (module_with stmts ∷ []) site)) (site_at (module_with stmts ∷ []) 0 at)
 

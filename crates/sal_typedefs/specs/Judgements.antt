@@ -1,4 +1,4 @@
--- What the code keeps of a statement that was judged.
+-- The code's result for a type statement.
 use Rattle.std.specs.Prelude.{◌≡◌, ⊤, ℕ, true, false, List, [], ◌∷◌, ◌++◌, Option, Some, None}
 use Rattle.std.specs.List.{flat_map}
 use Rattle.sal_stmt.specs.declared.stmt.Stmt.{Stmt}
@@ -19,7 +19,7 @@ abbrev pub merged : Option Found → Option Found → Option Found
 merged best None = best
 merged best (Some found) = better best found
 
--- its least fault, and its type and names where there is none
+-- its least fault, and its type and names if there is none
 pub record IsJudged (d : Judgement) (j : Judged) : Type 0 where
   pub fault : d.fault ≡ least None j.faults
   pub type : d.fault ≡ None → d.ty ≡ j.type
@@ -32,20 +32,20 @@ AreJudged [] [] = ⊤
 AreJudged (d ∷ ds) (j ∷ js) = IsJudged d j × AreJudged ds js
 AreJudged ds js = ⊥
 
--- what a statement restricts, as the code has it
+-- the type that a statement restricts, in the code's form
 abbrev pub base_seen : Basis → Base
 base_seen b = record { type = b.ty; entries = b.entries.items; itself = b.itself }
 
--- the faults of what restricts a type that has its fraction digits
+-- the faults of restrictions of a type whose fraction digits are set
 abbrev pub layer_faults : Base → ℕ → Stmt → List Found
 layer_faults base m stmt = absent_faults base m stmt ++ flat_map (sub_faults base (out-YangType base.type) m) (subs_of stmt) ++ list_faults base m stmt
 
--- the type that such a statement means
+-- the type of such a statement
 abbrev pub layer_meaning : List Stmt → ℕ → Base → Stmt → List YangType → YangType
 layer_meaning modules m base stmt below =
     roll-YangType (restricted modules m base stmt below (entries_in base stmt (out-YangType base.type)) (out-YangType base.type))
 
--- what a statement restricts, with the fraction digits that it gives
+-- the type that a statement restricts, with the fraction digits that it states
 abbrev pub with_layer : Base → ℕ → Base
 with_layer base digits = record { type = roll-YangType (with_digits digits (out-YangType base.type)); entries = base.entries; itself = base.itself }
 

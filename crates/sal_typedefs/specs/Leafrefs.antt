@@ -1,4 +1,4 @@
--- Leafrefs, as the code has them.
+-- Leafrefs in the code's form.
 use Rattle.std.specs.Prelude.{ℕ}
 use Rattle.sal_stmt.specs.declared.stmt.Stmt.{Stmt}
 use Rattle.sal_typedefs.specs.declared.leafrefs.Leafref.{Leafref}

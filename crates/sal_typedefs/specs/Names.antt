@@ -1,4 +1,4 @@
--- The names in a type statement and in those that it rests on, and their faults.
+-- The names in a type statement and in those that it depends on, and their faults.
 use Rattle.std.specs.Prelude.{ℕ, zero, suc, ◌+◌, Bool, not, ◌&&◌, ◌==◌, nat_lt, List, [], ◌∷◌, ◌++◌, map, filter, find, length, take, drop, Option, Some, None, is_some, is_none, option_map, if◌then◌else◌, codes}
 use Rattle.std.specs.List.{flat_map, list_any, list_all, prefix_len, before_first, after_first, slice_split, sum_by}
 use Rattle.std.specs.Option.{option_to_list}
@@ -13,7 +13,7 @@ use Rattle.sal_module.specs.Profile.{at_stmt}
 use Rattle.sal_typedefs.specs.Scopes.{Site, within, is_same, module_of, typedef_of, identity_of}
 use Rattle.sal_typedefs.specs.Builtins.{builtin_of}
 
--- ---- what a type rests on
+-- ---- dependencies of a type
 
 abbrev pub name_of : Site → List ℕ
 name_of site = argument_of site.stmt
@@ -34,12 +34,12 @@ rests_on modules site =
     if is_builtin site then (if same (name_of site) (codes "union") then types_in site else [])
     else flat_map (λ typedef. take 1 (types_in typedef)) (option_to_list (target modules site))
 
--- a type statement and those that it rests on, in so many steps
+-- a type statement and those that it depends on, in at most `steps` steps
 unfoldable pub under : ℕ → List Stmt → Site → List Site
 under zero modules site = site ∷ []
 under (suc steps) modules site = site ∷ flat_map (under steps modules) (rests_on modules site)
 
--- how many statements there are in so many levels: a way that does not come back is no longer
+-- the number of statements in `levels` levels: a path without a cycle is no longer
 unfoldable pub count : ℕ → Stmt → ℕ
 count zero stmt = 1
 count (suc levels) stmt = 1 + sum_by (count levels) (subs_of stmt)
@@ -52,13 +52,13 @@ steps_of modules = sum_by (count 64) modules
 abbrev pub is_leafref : Site → Bool
 is_leafref site = same (name_of site) (codes "leafref")
 
--- those among a type statement and all that it rests on
+-- those among a type statement and all that it depends on
 abbrev pub leafrefs_of : List Stmt → Site → List Site
 leafrefs_of modules site = filter is_leafref (under (steps_of modules) modules site)
 
 -- ---- the names of a leafref's path
 
--- What stands in brackets is skipped: of each predicate the closing bracket is left. Brackets that are not closed make no path.
+-- The text in brackets is skipped: of each predicate only the closing bracket remains. A text with an unclosed bracket is no path.
 abbrev mutual
   pub outside : List ℕ → Option (List ℕ)
   outside [] = Some []
@@ -78,11 +78,11 @@ is_step step = is_keyword (name_in step) && list_all (λ c. c == 93) (after_firs
 abbrev pub is_up : List ℕ → Bool
 is_up step = same step (codes "..")
 
--- how many steps a path goes up: none where it begins at the top
+-- how many steps a path goes up: 0 if it begins at the top
 abbrev pub count_up : List ℕ → ℕ
 count_up path = prefix_len is_up (slice_split (λ c. c == 47) path)
 
--- Its names begin behind an empty step, at the top, or behind one or more steps up.
+-- Its names begin after an empty step, at the top, or after one or more steps up.
 abbrev pub start_of : List (List ℕ) → ℕ
 start_of [] = 0
 start_of (step ∷ steps) = if length step == 0 then 1 else prefix_len is_up (step ∷ steps)
@@ -114,7 +114,7 @@ is_of modules typedef site = list_any (is_same typedef) (option_to_list (target 
 abbrev pub typedef_around : Site → Option Stmt
 typedef_around site = find (is_named word.Typedef) site.around
 
--- A name by which the typedef around it rests on itself. A leaf's type is in no typedef.
+-- A name through which the typedef around it depends on itself. A leaf's type is in no typedef.
 abbrev pub goes_in_circle : ℕ → List Stmt → Site → Bool
 goes_in_circle steps modules site =
     is_some (target modules site)

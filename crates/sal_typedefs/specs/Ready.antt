@@ -1,4 +1,4 @@
--- What look-ups in all modules stand on.
+-- Indexes for look-ups in all modules.
 use Rattle.std.specs.Prelude.{◌≡◌, ℕ, ◌<◌, ◌+◌, ◌^◌, Bool, ◌&&◌, List, length, filter, option_map, slice_index_or}
 use Rattle.std.specs.List.{position_from}
 use Rattle.std.specs.BTreeMap.{get_by_text}
@@ -26,7 +26,7 @@ pub record AreIdentities (modules : List Stmt) (names : List Numbers) : Type 0 w
   pub count : length names ≡ length modules
   pub each : (m : ℕ) (d : Numbers) (e : Stmt) → m < length modules → (q : List ℕ) → get_by_text (slice_index_or names m d) q ≡ identity_in modules q m (slice_index_or modules m e)
 
--- the block of each module, the identities, and how many steps a way has at most: fewer than 2^32, as there are so few statements
+-- the block of each module, the identities, and the largest number of steps of a path: fewer than 2^32, as there are so few statements
 pub record AreReady (modules blocks : List Stmt) (maps : List Numbers) (count : ℕ) : Type 0 where
   pub tops : blocks ≡ modules
   pub names : AreIdentities modules maps

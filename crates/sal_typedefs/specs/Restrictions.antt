@@ -1,4 +1,4 @@
--- What a type statement may say of the type that it restricts (RFC 7950 sections 7.3.4 and 9).
+-- The restrictions in a type statement (RFC 7950 sections 7.3.4 and 9).
 use Rattle.std.specs.Prelude.{◌≡◌, ℕ, ℤ, pos, ◌<◌, ◌≤◌, ◌≤ℤ◌, ⊤, All, Bool, true, false, not, ◌&&◌, ◌||◌, ◌==◌, nat_lt, nat_le, List, [], ◌++◌, length, Option, Some, None, is_some, is_err, if◌then◌else◌}
 use Rattle.std.specs.List.{flat_map, list_any}
 use Rattle.std.specs.Option.{option_to_list}
@@ -23,21 +23,21 @@ use Rattle.sal_typedefs.specs.declared.entry.Numbering.TheVariants.{Enums, Bits}
 use Rattle.sal_typedefs.specs.Entries.{item_of, entry_faults}
 use Rattle.sal_typedefs.specs.Patterns.{is_malformed}
 
--- A type that a statement restricts: the built-in type itself, or one that is derived from it. The names of an enumeration or
+-- The type that a statement restricts: the built-in type itself, or one that is derived from it. The names of an enumeration or
 -- bits have their numbers here.
 pub record Base : Type 0 where
   pub type : YangType
   pub entries : List Entry
   pub itself : Bool
 
--- one of which the names do not matter
+-- one whose names do not matter
 abbrev pub unlisted : YangType → Bool → Base
 unlisted type itself = record { type = type; entries = []; itself = itself }
 
 abbrev pub Layer : Type 0
 Layer = YangType-F YangType
 
--- as the code has them
+-- in the code's form
 abbrev pub seen : Bor Ranges × ℕ → List Part × ℕ
 seen n = (n.0.now, n.1)
 
@@ -69,7 +69,7 @@ abbrev pub is_leafref : Layer → Bool
 is_leafref (YangType-F.Leafref path) = true
 is_leafref t = false
 
--- what the statement of a built-in type has to say, and no other may
+-- the substatement that the statement of a built-in type requires, and no other may have
 abbrev pub needed : Layer → Option Keyword
 needed (YangType-F.Dec digits range) = Some word.FractionDigits
 needed (YangType-F.Enum names places) = Some word.Enum
@@ -91,7 +91,7 @@ abbrev pub is_item_of_another : Layer → Stmt → Bool
 is_item_of_another t stmt =
     ((is_named word.Enum stmt && not (is_enumeration t)) || (is_named word.Bit stmt && not (is_bits t))) || (is_named word.RequireInstance stmt && not (is_leafref t))
 
--- what only another built-in type says, or only the built-in type itself
+-- a substatement that only another built-in type, or only the built-in type itself, may have
 abbrev pub is_out_of_place : Base → Stmt → Bool
 is_out_of_place base stmt =
     (((is_named word.FractionDigits stmt && not (is_needed base word.FractionDigits)) || (is_named word.Base stmt && not (is_needed base word.Base)))
@@ -101,7 +101,7 @@ abbrev pub is_misplaced : Base → Stmt → Bool
 is_misplaced base stmt =
     (is_measure_of_another (out-YangType base.type) stmt || is_item_of_another (out-YangType base.type) stmt) || is_out_of_place base stmt
 
--- a range or length that is none, or is wider than that of the type
+-- a text that is not a range or length, or one that is wider than that of the type
 abbrev pub is_wider : Option (List Part × ℕ) → Stmt → Bool
 is_wider None stmt = false
 is_wider (Some (within, digits)) stmt = is_err (read_ranges (argument_of stmt) within digits)
@@ -146,7 +146,7 @@ digit_fault m sub =
 abbrev pub digit_faults : ℕ → Stmt → List Found
 digit_faults m stmt = flat_map (digit_fault m) (subs_of stmt)
 
--- a decimal64 has its digits before it is restricted
+-- a decimal64 gets its digits before it is restricted
 abbrev pub with_digits : ℕ → Layer → Layer
 with_digits digits (YangType-F.Dec old range) = YangType-F.Dec digits range
 with_digits digits t = t
@@ -156,7 +156,7 @@ layer_of base stmt = if is_decimal base then with_digits (digits_of stmt) (out-Y
 
 -- ---- all faults of a statement
 
--- what the statement has to say and does not
+-- the required substatement is missing
 abbrev pub absent_faults : Base → ℕ → Stmt → List Found
 absent_faults base m stmt =
     if base.itself && list_any (λ keyword. not (list_any (is_named keyword) (subs_of stmt))) (option_to_list (needed (out-YangType base.type)))
@@ -168,13 +168,13 @@ is_bad base t sub = is_misplaced base sub || ((is_named word.Range sub && is_wid
 abbrev pub sub_faults : Base → Layer → ℕ → Stmt → List Found
 sub_faults base t m sub = if is_bad base t sub then at_stmt BadRestriction m sub else []
 
--- how the names of a type get their numbers, where it has names
+-- how the names of a type get their numbers, if it has names
 abbrev pub numbering_of : Layer → Option Numbering
 numbering_of (YangType-F.Enum names places) = Some Enums
 numbering_of (YangType-F.Bits names positions) = Some Bits
 numbering_of t = None
 
--- the names from which a statement chooses, or none where it gives names of its own
+-- the names from which a statement chooses, or none if it defines names
 abbrev pub choices : Base → Option (List Entry)
 choices base = if base.itself then None else Some base.entries
 
@@ -185,7 +185,7 @@ faults_by base m stmt n = entry_faults n (choices base) m [] (all_named (item_of
 abbrev pub list_faults : Base → ℕ → Stmt → List Found
 list_faults base m stmt = flat_map (faults_by base m stmt) (option_to_list (numbering_of (out-YangType base.type)))
 
--- Nothing is asked of what restricts a decimal64 whose fraction digits are bad.
+-- Restrictions of a decimal64 with bad fraction digits are not checked.
 abbrev pub restriction_faults : Base → ℕ → Stmt → List Found
 restriction_faults base m stmt =
     if is_decimal base && not (length (digit_faults m stmt) == 0) then digit_faults m stmt

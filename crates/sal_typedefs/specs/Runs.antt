@@ -1,10 +1,10 @@
--- Statements that are judged from the last one to the first.
+-- Evaluation of statements from the last one to the first.
 use Rattle.std.specs.Prelude.{List, [], ◌∷◌, take, drop}
 use Rattle.sal_stmt.specs.declared.stmt.Stmt.{Stmt}
 use Rattle.sal_typedefs.specs.Types.{Judged, judged, base_of}
 use Rattle.sal_typedefs.specs.Walks.{Node}
 
--- Each takes as many of those judged last as stand below it.
+-- Each takes the results of the statements below it, which are the last ones.
 unfoldable pub run : List Stmt → List Node → List Judged
 run modules [] = []
 run modules (node ∷ nodes) =

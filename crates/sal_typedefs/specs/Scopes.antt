@@ -1,4 +1,4 @@
--- Statements with what stands around them, and the names that mean others (RFC 7950 sections 5.5, 6.2.1 and 6.4.1).
+-- Statements with the statements around them, and what names refer to (RFC 7950 sections 5.5, 6.2.1 and 6.4.1).
 use Rattle.std.specs.Prelude.{ℕ, zero, suc, ◌+◌, Bool, ◌&&◌, ◌==◌, nat_lt, List, [], ◌∷◌, length, take, drop, find, Option, Some, None, is_some, option_map, option_and_then, if◌then◌else◌}
 use Rattle.std.specs.List.{slice_get, sum_by, position_from}
 use Rattle.std.specs.Option.{option_to_list}
@@ -26,7 +26,7 @@ place_of site = (out-Stmt site.stmt).at
 abbrev pub is_same : Site → Site → Bool
 is_same a b = a.module == b.module && place_of a == place_of b
 
--- the statement at a place, among a statement and those in so many levels below it
+-- the statement at an offset, among a statement and those in `levels` levels below it
 unfoldable pub way_to : ℕ → ℕ → Site → Option Site
 way_to zero at site = if place_of site == at then Some site else None
 way_to (suc levels) at site = if place_of site == at then Some site else find_first (λ sub. way_to levels at (within site sub)) (subs_of site.stmt)
@@ -46,7 +46,7 @@ is_prefixed name = nat_lt (colon_at name) (length name)
 abbrev pub local : List ℕ → List ℕ
 local name = if is_prefixed name then drop (colon_at name + 1) name else name
 
--- the module whose names a name stands for, in a module: its own, or the one that the prefix names there
+-- the module that a name in a module refers to: that module, or the one that the prefix names there
 abbrev pub module_of : List Stmt → ℕ → List ℕ → Option ℕ
 module_of modules m name = if is_prefixed name then imported modules m (take (colon_at name) name) else Some m
 
@@ -63,7 +63,7 @@ closest m name (block ∷ outer) =
     then option_map (λ stmt. record { «module» = m; stmt = stmt; around = block ∷ outer }) (find (is_typedef_of name) (subs_of block))
     else closest m name outer
 
--- Of the own module all blocks around the site count, of another its typedefs at the top.
+-- In its own module all blocks around the site are searched, in another one only its top.
 abbrev pub blocks_of : List Stmt → Site → ℕ → List Stmt
 blocks_of modules site m = if m == site.module then site.around else option_to_list (slice_get modules m)
 

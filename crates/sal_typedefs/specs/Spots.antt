@@ -1,4 +1,4 @@
--- Sites, as the code has them.
+-- Sites in the code's form.
 use Rattle.std.specs.Prelude.{ℕ, List, ◌++◌, map, reverse, take}
 use Rattle.std.specs.Borrow.{Bor}
 use Rattle.sal_stmt.specs.declared.stmt.Stmt.{Stmt}
@@ -12,10 +12,10 @@ site_in m blocks stmt = record { «module» = m; stmt = stmt; around = reverse b
 abbrev pub stmts : List (Bor Stmt) → List Stmt
 stmts all = map (λ (s : Bor Stmt). s.now) all
 
--- a statement of module m in the last of so many of these blocks
+-- a statement of module m in the last of the first n of these blocks
 abbrev pub seen_in : ℕ → List Stmt → ℕ × Bor Stmt → Site
 seen_in m blocks found = site_in m (take found.0 blocks) found.1.now
 
--- the site that the code holds: the blocks of the caller, and those inside
+-- the site of a spot: the blocks of the caller, and the inner ones
 abbrev pub site_of : Spot → Site
 site_of s = site_in s.module (s.outer.now ++ stmts s.inner.items) s.stmt.now

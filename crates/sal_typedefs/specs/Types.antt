@@ -1,4 +1,4 @@
--- What a type statement means: its type, or the first fault in it and in those that it rests on.
+-- The meaning of a type statement: its type, or the first fault in it and in those that it depends on.
 use Rattle.std.specs.Prelude.{◌≡◌, ⊤, ℕ, zero, suc, Bool, true, false, not, ◌&&◌, ◌==◌, List, [], ◌∷◌, ◌++◌, map, find, length, Option, Some, None, is_some, option_map, unwrap_or, if◌then◌else◌, unsigned_abs}
 use Rattle.std.specs.List.{flat_map, list_any, enumerate_from, position_from, slice_get, slice_index}
 use Rattle.std.specs.Option.{option_to_list}
@@ -25,11 +25,11 @@ use Rattle.sal_typedefs.specs.Restrictions.{Base, unlisted, Layer, layer_of, num
 
 -- ---- the type of a statement without faults
 
--- the numbers that a text writes, or all where it writes none
+-- the range of a text, or all numbers if there is none
 abbrev pub read_or_all : List ℕ → ℕ → List Part → List Part
 read_or_all t digits within = result_unwrap_or (read_ranges t within digits) within
 
--- the range or length of a type, narrowed where the statement says so
+-- the range or length of a type, narrowed if the statement has one
 abbrev pub narrowed : Keyword → Stmt → ℕ → List Part → List Part
 narrowed keyword stmt digits within =
     unwrap_or (option_map (λ sub. read_or_all (argument_of sub) digits within) (find (is_named keyword) (subs_of stmt))) within
@@ -42,14 +42,14 @@ abbrev pub members_of : YangType → Layer → List YangType
 members_of t (YangType-F.Union members) = members
 members_of t layer = t ∷ []
 
--- the places of some names in the original enumeration
+-- the indexes of some names in the original enumeration
 abbrev pub places_of : List (List ℕ) → List ℕ → List (List ℕ) → List ℕ
 places_of names places chosen = map (λ name. slice_index places (unwrap_or (position_from (same name) 0 names) 0)) chosen
 
 abbrev pub names_in : List Entry → List (List ℕ)
 names_in entries = map (λ (e : Entry). e.name) entries
 
--- A statement that names none has all names of the type that it restricts.
+-- A statement without names has all names of the type that it restricts.
 abbrev pub takes_all : Numbering → Base → Stmt → Bool
 takes_all n base stmt = not base.itself && not (list_any (is_named (item_of n)) (subs_of stmt))
 
@@ -64,7 +64,7 @@ entries_by base stmt (Some n) = entries_with base stmt n
 abbrev pub entries_in : Base → Stmt → Layer → List Entry
 entries_in base stmt layer = entries_by base stmt (numbering_of layer)
 
--- What the statement says of itself is taken where it stands on the built-in type. Below are the types that it rests on.
+-- Some substatements count only directly on the built-in type. `below` are the types that it depends on.
 abbrev pub restricted : List Stmt → ℕ → Base → Stmt → List YangType → List Entry → Layer → Layer
 restricted modules m base stmt below entries (YangType-F.Int bits signed range) = YangType-F.Int bits signed (narrowed word.Range stmt 0 range)
 restricted modules m base stmt below entries (YangType-F.Dec digits range) = YangType-F.Dec digits (narrowed word.Range stmt digits range)
@@ -84,7 +84,7 @@ restricted modules m base stmt below entries (YangType-F.Union members) =
 restricted modules m base stmt below entries (YangType-F.Leafref path) = YangType-F.Leafref (if base.itself then value_of word.Path stmt else path)
 restricted modules m base stmt below entries t = t
 
--- a type that its statement alone restricts, and without names
+-- a type that only its statement restricts, and without names
 abbrev pub IsPlain : Layer → Type 0
 IsPlain (YangType-F.Enum names places) = ⊥
 IsPlain (YangType-F.Bits names positions) = ⊥
@@ -97,9 +97,9 @@ IsRestricted type itself stmt result =
     (modules : List Stmt) (m : ℕ) (below : List YangType) (entries : List Entry)
     → result ≡ roll-YangType (restricted modules m (unlisted type itself) stmt below entries (out-YangType type))
 
--- ---- one statement after those that it rests on
+-- ---- one statement after those that it depends on
 
--- the faults of a statement and of those that it rests on, and its type where there is none
+-- the faults of a statement and of those that it depends on, and its type if there is none
 pub record Judged : Type 0 where
   pub faults : List Found
   pub type : YangType
@@ -118,7 +118,7 @@ base_of site below =
     then record { type = unwrap_or (option_map type_of (builtin_of (name_of site))) nothing.type; entries = []; itself = true }
     else record { type = (unwrap_or (slice_get below 0) nothing).type; entries = (unwrap_or (slice_get below 0) nothing).entries; itself = false }
 
--- Where one of the types below has a fault, only patterns are looked at.
+-- If one of the types below has a fault, only patterns are checked.
 abbrev pub own_faults : Site → Base → List Judged → List Found
 own_faults site base below =
     pattern_faults site.module site.stmt ++ (if list_any is_faulty below then [] else restriction_faults base site.module site.stmt)
@@ -133,17 +133,17 @@ judged modules site base below =
       entries = entries;
     }
 
--- at the end of a way
+-- at the end of a path
 unfoldable pub judge_last : List Stmt → Site → Judged
 judge_last modules site = judged modules site (base_of site []) []
 
--- Where no name is faulty, no way takes more steps than there are statements.
+-- If no name is faulty, no path has more steps than there are statements.
 unfoldable pub judge : ℕ → List Stmt → Site → Judged
 judge zero modules site = judge_last modules site
 judge (suc steps) modules site =
     judged modules site (base_of site (map (judge steps modules) (rests_on modules site))) (map (judge steps modules) (rests_on modules site))
 
--- ---- the answer
+-- ---- the result
 
 abbrev pub judgement : List Stmt → Site → Judged
 judgement modules site = judge (steps_of modules) modules site

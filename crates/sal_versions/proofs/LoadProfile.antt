@@ -50,7 +50,7 @@ module_level : level_faults 0 module_stmt ≡ []
 unfolding words keyword_of word_of rows rule_at rule_of calls_deref_after bit_faults level_faults is_keyword
 module_level = simp (out-roll-Stmt, all_named, subs_of, is_named)
 
--- ---- and what stands below
+-- ---- and the statements below
 
 unless : (b : Bool) (found : List Found) → found ≡ [] → (if b then found else []) ≡ []
 unless true found none = none

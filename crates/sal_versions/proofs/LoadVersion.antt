@@ -22,7 +22,7 @@ built : (made : Result Version BuildFault) (t : SchemaTable) → (made >>= (λ (
 built (Ok v) t e = (v, refl, same_ok e)
 built (Err fault) t e = cc
 
--- the versions where the first one is this
+-- the versions if this is the first one
 abbrev alone : Version → Versions
 alone v = record { stmts = its_stmts; olds = []; latest = v }
 

@@ -9,7 +9,7 @@ use Rattle.sal_versions.specs.declared.schema_fault.SchemaFault.{SchemaFault}
 use Rattle.sal_versions.specs.declared.schema_fault.SchemaFault.TheVariants.{Bad, NoMemory}
 use Rattle.sal_versions.specs.Schemas.{or_text, statements_from, IsFaultOf, Makes}
 
--- what was read, and then what is read of the rest
+-- the statements read so far, and then those of the rest
 abbrev pub before : List Stmt → Result (List Stmt) (List ℕ) → Result (List Stmt) (List ℕ)
 before done rest = rest >>= (λ more. Ok (done ++ more))
 

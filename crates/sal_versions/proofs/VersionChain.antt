@@ -9,7 +9,7 @@ use Rattle.sal_versions.specs.Schemas.{statements_from, in_words}
 use Rattle.sal_versions.specs.Versions.{AreInOrder, VersionsAreInOrder, Versions, first_built, first_of, next_of, or_upgrade, tables_of, upgraded, with_latest, with_more}
 use Rattle.sal_versions.proofs.Bound.{bind_ok, same_ok}
 
--- ---- what is made is made in each step
+-- ---- a result is the result of each step
 
 in_words-ok : {A : Type 0} (made : Result A BuildFault) (x : A) → in_words made ≡ Ok x → made ≡ Ok x
 in_words-ok (Ok y) x e = cc

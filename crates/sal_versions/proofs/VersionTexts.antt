@@ -18,7 +18,7 @@ use Rattle.sal_versions.specs.Schemas.{IsFaultOf, IsOfUpgrade}
 use Rattle.sal_versions.specs.Versions.{Versions, next_of, or_upgrade, upgraded}
 use Rattle.sal_versions.proofs.ReadTexts.{short_sum}
 
--- what follows of what is returned
+-- a consequence of a result
 pub if_ok : {X F : Type 0} {P Q : X → Type 0} (result : Result X F) → ((x : X) → P x → Q x) → IfOk result P → IfOk result Q
 if_ok (Ok x) next is = next x is
 if_ok (Err fault) next is = tt
@@ -42,7 +42,7 @@ module _ (modules : Texts) (upgrades : List Texts) (i : ℕ) (texts : Texts) (h 
       ∙ ap (λ all. modules ++ all) (flat_map-append (λ (t : Texts). t) front (texts ∷ []) ∙ ap (λ t. flat_map (λ (t : Texts). t) front ++ t) (append-nil texts))
       ∙ sym (append_assoc modules (flat_map (λ (t : Texts). t) front) texts)
 
-  -- what the next version reads
+  -- the statements that the next version reads
   pub next-read : (stmts more : List Stmt) → AreRead (all_texts modules (take i upgrades)) stmts → AreRead texts more → AreRead (all_texts modules (take (i + 1) upgrades)) (stmts ++ more)
   next-read stmts more was now =
       ap (map read) joined ∙ map-append read (all_texts modules (take i upgrades)) texts

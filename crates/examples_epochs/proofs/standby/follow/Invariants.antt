@@ -1,4 +1,4 @@
--- The follower has had so many bytes.
+-- The follower has received `fed` bytes.
 use Rattle.sal_follow.specs.Fed.{IsFedBy}
 use Rattle.examples_epochs.proofs.standby.follow.Given as goal
 

@@ -1,4 +1,4 @@
--- What is left to climb leads to the context.
+-- The rest of the climb gives the context.
 use Rattle.std.proofs.Common.{◌≡◌, ◌<◌, ◌-◌, length, not}
 use Rattle.std.specs.Prelude.{IfSome}
 use Rattle.sal_schema.specs.Table.{closest}

@@ -1,4 +1,4 @@
--- What is left to climb leads to the whole way.
+-- The rest of the climb gives the whole path.
 use Rattle.std.proofs.Common.{◌≡◌, ◌<◌, ◌-◌, length}
 use Rattle.std.specs.Prelude.{IfSome}
 use Rattle.sal_rules.specs.Contexts.{way, through_plain}

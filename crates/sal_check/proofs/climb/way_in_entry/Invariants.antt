@@ -1,4 +1,4 @@
--- What is left to climb leads to the whole way.
+-- The rest of the climb gives the whole path.
 use Rattle.std.proofs.Common.{◌≡◌, ◌-◌, length}
 use Rattle.sal_rules.specs.Contexts.{way_in_entry, from_list}
 use Rattle.sal_check.proofs.climb.way_in_entry.Given as goal

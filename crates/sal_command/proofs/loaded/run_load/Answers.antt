@@ -1,4 +1,4 @@
--- What the clients left is one order, and its summary is that of the order.
+-- The clients' log is one order, and the summary is that of the order.
 use Rattle.std.proofs.Common.{◌≡◌, List, ap, sym, ◌∙◌, subst}
 use Rattle.sal_history.specs.World.{Domain}
 use Rattle.sal_script.specs.Along.{AreLogOf}

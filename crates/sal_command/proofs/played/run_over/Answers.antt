@@ -1,4 +1,4 @@
--- What the clients left is one order, and its report is that of the order.
+-- The clients' log is one order, and the report is that of the order.
 use Rattle.std.proofs.Common.{◌≡◌, List, ap, sym, ◌∙◌, subst}
 use Rattle.sal_script.specs.Moves.{clients_of}
 use Rattle.sal_script.specs.Report.{report}

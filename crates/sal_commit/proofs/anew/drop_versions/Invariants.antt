@@ -1,4 +1,4 @@
--- So many versions went.
+-- The first versions were dropped.
 use Rattle.std.proofs.Common.{◌≡◌, ◌-◌, drop}
 use Rattle.sal_history.specs.World.{version_from}
 use Rattle.sal_commit.specs.Versions.{tables_of}

@@ -1,4 +1,4 @@
--- What was changed in the newest trees has the fresh stamp, which is greater than theirs.
+-- The changed nodes of the newest trees have the fresh stamp, which is greater than theirs.
 use Rattle.std.proofs.Common.{◌+◌}
 use Rattle.sal_commit.specs.Stamps.{first_receipt}
 use Rattle.sal_commit.proofs.Following.{can-follow}

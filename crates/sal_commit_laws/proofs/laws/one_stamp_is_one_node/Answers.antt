@@ -1,4 +1,4 @@
--- What is in both commits is as old as the first.
+-- A node in both commits is as old as the first.
 use Rattle.std.proofs.Common.{Some, ap, sym, ◌∙◌}
 use Rattle.sal_tree.proofs.Commits.{under-same}
 use Rattle.sal_graft.specs.Kept.{tree_in}

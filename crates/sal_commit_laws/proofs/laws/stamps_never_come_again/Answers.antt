@@ -1,4 +1,4 @@
--- What is there again was there before all that came between.
+-- A node that is there again was there in all commits between.
 use Rattle.std.proofs.Common.{◌+◌, ◌-◌, ◌≤◌, arith}
 use Rattle.sal_graft.specs.Following.{stamp_of}
 use Rattle.sal_commit_laws.proofs.Ages.{again, old, rising_to}

@@ -1,4 +1,4 @@
--- What the commits from the opening on say of a path.
+-- What the commits from the opening on did at a path.
 use Rattle.std.proofs.Common.{◌≡◌, ℕ, ◌+◌, ◌-◌, List, get_or, Option, None, Some, ap, sym, ◌∙◌, arith}
 use Rattle.sal_types.specs.declared.value.Store.{Store}
 use Rattle.sal_types.specs.declared.value.Step.{Step}

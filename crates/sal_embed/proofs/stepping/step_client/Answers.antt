@@ -1,4 +1,4 @@
--- The step is answered, or the call is made that it asks for; or the log is full, and the client is as it was.
+-- The step is answered, or its call is made; or the log is full, and the client is unchanged.
 use Rattle.std.proofs.Common.{◌≡◌, ℕ, List, [], ◌∷◌, Option, None, Some, ap, sym, ◌∙◌, subst}
 use Rattle.sal_script.specs.declared.script.ScriptStep.{ScriptStep}
 use Rattle.sal_script.specs.Moves.{move_of}

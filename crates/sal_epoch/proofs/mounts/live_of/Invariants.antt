@@ -1,4 +1,4 @@
--- Those of the mounts so far are listed whose domain is live.
+-- Of the mounts so far, those whose domain is live are listed.
 use Rattle.std.proofs.Common.{◌≡◌, List, map, take}
 use Rattle.sal_mount.specs.declared.call.MountCall.{MountCall}
 use Rattle.sal_mount.specs.Register.{IsOf}

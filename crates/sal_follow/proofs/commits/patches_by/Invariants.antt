@@ -1,4 +1,4 @@
--- What the changes so far set.
+-- The patches of the changes so far.
 use Rattle.std.proofs.Common.{◌≡◌, map}
 use Rattle.sal_follow.specs.Framed.{patch_by}
 use Rattle.sal_follow.proofs.commits.patches_by.Given as goal

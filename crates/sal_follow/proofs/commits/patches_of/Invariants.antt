@@ -1,4 +1,4 @@
--- What sets the rows so far.
+-- The patches of the rows so far.
 use Rattle.std.proofs.Common.{◌≡◌, map, take}
 use Rattle.sal_follow.specs.Exporting.{patch_of}
 use Rattle.sal_follow.proofs.commits.patches_of.Given as goal

@@ -1,4 +1,4 @@
--- What was played is what the definitions play.
+-- The play is the play of the definitions.
 use Rattle.std.proofs.Common.{ℕ, List, Result, ap, sym, ◌∙◌, subst}
 use Rattle.sal_script.specs.Moves.{clients_of}
 use Rattle.sal_script.specs.Play.{play}

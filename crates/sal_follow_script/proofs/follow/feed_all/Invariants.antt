@@ -1,4 +1,4 @@
--- So many bytes were taken.
+-- The first bytes, up to `fed`, were taken.
 use Rattle.std.proofs.Common.{◌-◌, length}
 use Rattle.sal_follow_script.proofs.Fed.{IsFed}
 use Rattle.sal_follow_script.proofs.follow.feed_all.Given as goal

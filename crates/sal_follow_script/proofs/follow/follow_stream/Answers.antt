@@ -1,4 +1,4 @@
--- What is reported of the follower is the report of the stream.
+-- The report of the follower is the report of the stream.
 use Rattle.std.proofs.Common.{ap, ◌∙◌}
 use Rattle.sal_follow.specs.States.{Following}
 use Rattle.sal_follow_script.proofs.Ends.{told_fault_by, told_taken}

@@ -1,4 +1,4 @@
--- What is left: the rows from the index on.
+-- The rows from the index on are left.
 use Rattle.std.proofs.Common.{◌≡◌, drop}
 use Rattle.std.specs.List.{position_from}
 use Rattle.sal_rows.specs.Clash.{is_stale}

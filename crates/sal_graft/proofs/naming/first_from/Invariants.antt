@@ -1,4 +1,4 @@
--- What lies before the lower bound is below the limit, and what stands at the upper one is not.
+-- Numbers before the lower bound are below the limit, and the one at the upper bound is not.
 use Rattle.std.proofs.Common.{◌≡◌, ◌-◌, ◌<◌, ◌≤◌, get_or}
 use Rattle.sal_tree.specs.declared.commit.Commit.{Commit}
 use Rattle.sal_graft.proofs.naming.first_from.Given as goal

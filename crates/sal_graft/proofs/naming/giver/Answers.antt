@@ -1,4 +1,4 @@
--- The commit that is found gave the stamp, or none did where it is the start of the span.
+-- The commit that is found gave the stamp, or none did if it is the start of the span.
 use Rattle.std.proofs.Common.{List, ◌≡◌, ◌==◌, ◌/◌, true, false, Some, None, ap, sym, ◌∙◌, arith, if◌then◌else◌}
 use Rattle.std.proofs.lemmas.Bool.Decides.{nat_tests}
 use Rattle.sal_types.specs.declared.value.Step.{Step}

@@ -1,4 +1,4 @@
--- What is left: the spans up to the one that is as far from the end as the counter.
+-- The spans before the last `back` ones are left to search.
 use Rattle.std.proofs.Common.{◌≡◌, ◌-◌, length, take, reverse}
 use Rattle.std.specs.Prelude.{find}
 use Rattle.sal_rows.specs.Commits.{touches_at}

@@ -1,4 +1,4 @@
--- What is left to look at: the commits up to the one that is as far from the end as the counter.
+-- The commits before the last `back` ones are left to search.
 use Rattle.std.proofs.Common.{◌≡◌, ◌-◌, reverse}
 use Rattle.std.specs.Prelude.{find}
 use Rattle.sal_rows.specs.Commits.{numbers_after, touches_at, last_touch}

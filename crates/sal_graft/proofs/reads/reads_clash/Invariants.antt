@@ -1,4 +1,4 @@
--- What is left: the operations from the index on.
+-- The operations from the index on are left.
 use Rattle.std.proofs.Common.{◌≡◌, [], take, drop}
 use Rattle.sal_rows.specs.Clash.{reads_from}
 use Rattle.sal_graft.specs.Kept.{opening_in, ops_of}

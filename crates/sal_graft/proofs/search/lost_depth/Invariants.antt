@@ -1,4 +1,4 @@
--- What is left: the depths from this one on.
+-- The depths from this one on are left.
 use Rattle.std.proofs.Common.{◌≡◌, ◌-◌, length, take}
 use Rattle.std.specs.Prelude.{find}
 use Rattle.sal_rows.specs.Commits.{numbers_after}

@@ -1,4 +1,4 @@
--- What is left: the spans from the index on.
+-- The spans from the index on are left.
 use Rattle.std.proofs.Common.{◌≡◌, drop}
 use Rattle.std.specs.Prelude.{find, not}
 use Rattle.sal_rows.specs.Commits.{is_unchanged}

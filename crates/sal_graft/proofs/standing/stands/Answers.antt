@@ -1,4 +1,4 @@
--- What stands at the node.
+-- Whether there is a row at or below the node.
 use Rattle.std.proofs.Common.{Some, ap, sym, subst, ◌∙◌}
 use Rattle.sal_node.specs.Tree.{Tree, IsGrove}
 use Rattle.sal_tree.specs.Grow.{at, present}

@@ -1,4 +1,4 @@
--- What a put, a merge, a delete and a read touch.
+-- The paths that a put, a merge, a delete and a read touch.
 use Rattle.std.proofs.Common.{◌≡◌, false, ◌||◌, List, ap, sym, ◌∙◌}
 use Rattle.sal_types.specs.declared.value.Step.{Step}
 use Rattle.sal_types.specs.declared.row.Row.{Row}

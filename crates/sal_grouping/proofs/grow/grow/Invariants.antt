@@ -12,6 +12,6 @@ invariant-frames l =
           ≡ grown l.plan.rows.items l.plan.named.items l.owner l.fn.parent l.fn.nodes.items l.fn.seeds.items;
     }
 
--- a node that is added leaves two frames at most in place of one, and else there is a frame less
+-- a node that is added replaces one frame by at most two; else there is one frame less
 abbrev pub decreases-frames : goal.decreases-frames
 decreases-frames l = 2 * (65536 - length l.nodes.items) + length l.frames.items

@@ -23,7 +23,7 @@ returns-clause-many c t =
     step-many a.plan.now.rows.items a.plan.now.named.items a.owner a.frames.now.items c.push.new.self.items a.frame a.nodes.now.items c.push-2.new.self.items c.index-seed.result.now
     c.len-number.result within c.index-seed.ensures number put c.in_ok-push.ensures.items pos 65536 many
 
--- one more behind the others
+-- one more element after the others
 one-more : {X : Type 0} (xs ys : List X) (x : X) → ys ≡ xs ++ x ∷ [] → length ys ≡ length xs + 1
 one-more xs ys x e = ap length e ∙ length-append xs (x ∷ [])
 

@@ -1,4 +1,4 @@
--- What is left of the path.
+-- The rest of the path.
 use Rattle.std.proofs.Common.{◌≡◌, ◌++◌, map, length}
 use denote.Text.{Utf8}
 use denote.Shadow.{shadow}

@@ -1,4 +1,4 @@
--- Where names have no fault, what is left is what grows.
+-- If the names have no fault, the rest is the growth.
 use Rattle.std.proofs.Common.{◌≡◌, ◌∙◌, ℕ, List, None, Option, sym, ap, rules}
 use Rattle.sal_types.specs.Reading.{◌>>=◌}
 use Rattle.sal_module.specs.declared.fault.Found.{Found}

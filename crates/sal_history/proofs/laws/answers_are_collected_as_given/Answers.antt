@@ -1,4 +1,4 @@
--- What is collected for a request.
+-- The collected answer of a request.
 use Rattle.sal_history.proofs.Routed.{answers-collected, collected-as-given}
 use Rattle.sal_history.proofs.laws.answers_are_collected_as_given.Goals as goal
 

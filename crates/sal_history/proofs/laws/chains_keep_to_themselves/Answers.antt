@@ -1,4 +1,4 @@
--- What chains see and are spared, and the order of commits.
+-- The bases of chains, that they have no conflicts with their own commits, and the order of commits.
 use Rattle.sal_history.proofs.Numbers.{apart_in_chains, in_order, on_top_of_base}
 use Rattle.sal_history.proofs.laws.chains_keep_to_themselves.Goals as goal
 

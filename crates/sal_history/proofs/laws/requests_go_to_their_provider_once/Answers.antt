@@ -1,4 +1,4 @@
--- To whom a request is handed out, and how often.
+-- To which client a request is delivered, and how often.
 use Rattle.sal_history.proofs.Routed.{handed-once-in-log, handed-to-provider}
 use Rattle.sal_history.proofs.laws.requests_go_to_their_provider_once.Goals as goal
 

@@ -1,4 +1,4 @@
--- The versions between which an upgrade goes.
+-- The versions before and after an upgrade.
 use Rattle.sal_history.proofs.Unbroken.{one_by_one}
 use Rattle.sal_history.proofs.laws.upgrades_go_one_by_one.Goals as goal
 

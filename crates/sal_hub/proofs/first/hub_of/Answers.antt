@@ -1,4 +1,4 @@
--- Without calls there is nothing to keep but the domains.
+-- Without calls the only state is that of the domains.
 use Rattle.std.proofs.Common.{arith, ◌≡◌, length, map, ap, sym, ◌∙◌, subst}
 use Rattle.std.proofs.lemmas.Grind.{common_steps}
 use Rattle.std.proofs.lemmas.List.{length-map}

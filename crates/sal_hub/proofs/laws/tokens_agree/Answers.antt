@@ -1,4 +1,4 @@
--- Each says what the entry at its place says.
+-- Each has the trees of the entry at its place.
 use Rattle.std.proofs.Common.{◌≡◌, ap, sym, ◌∙◌, if◌then◌else◌, nat_eq}
 use Rattle.std.proofs.lemmas.Option.{same_Some}
 use Rattle.sal_tx.specs.Views.{rows_in}

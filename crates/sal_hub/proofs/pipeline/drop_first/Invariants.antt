@@ -1,4 +1,4 @@
--- So many went.
+-- The first ones are dropped.
 use Rattle.std.proofs.Common.{◌≡◌, drop}
 use Rattle.sal_hub.proofs.pipeline.drop_first.Given as goal
 

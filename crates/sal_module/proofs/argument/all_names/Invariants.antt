@@ -1,4 +1,4 @@
--- What is left of the path.
+-- The rest of the path.
 use Rattle.std.proofs.Common.{◌≡◌, ◌≤◌, ◌==◌, length}
 use Rattle.std.specs.List.{list_all, slice_split}
 use Rattle.sal_stmt.specs.Words.{is_keyword}

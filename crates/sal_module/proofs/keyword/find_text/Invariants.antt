@@ -1,4 +1,4 @@
--- What is left to look through.
+-- The remaining elements to search.
 use Rattle.std.proofs.Common.{◌≡◌, drop, map}
 use Rattle.sal_module.specs.Keywords.{word_among, word_view}
 use Rattle.sal_module.proofs.keyword.find_text.Given as goal

@@ -1,4 +1,4 @@
--- What is left of the path, and the byte before it.
+-- The rest of the path, and the byte before it.
 use Rattle.std.proofs.Common.{◌≡◌, drop}
 use Rattle.sal_module.specs.LeftOut.{calls_deref_after}
 use Rattle.sal_module.proofs.left_out.calls_deref.Given as goal

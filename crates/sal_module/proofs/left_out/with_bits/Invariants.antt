@@ -1,4 +1,4 @@
--- What is left of the bits, with the next position, which is kept up to 64.
+-- The remaining bits, with the next position, which is capped at 64.
 use Rattle.std.proofs.Common.{◌≡◌, ℕ, drop, min}
 use Rattle.sal_module.specs.Faults.{least}
 use Rattle.sal_module.specs.LeftOut.{bit_faults}

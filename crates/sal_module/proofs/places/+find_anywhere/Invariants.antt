@@ -1,4 +1,4 @@
--- What is left to look through.
+-- The remaining elements to search.
 use Rattle.std.proofs.Common.{◌≡◌, ◌-◌, drop}
 use Rattle.sal_module.specs.Statements.{subs_of}
 use Rattle.sal_module.specs.Places.{find_first, find_at}

@@ -1,4 +1,4 @@
--- What is left to look at.
+-- The remaining elements.
 use Rattle.std.proofs.Common.{◌≡◌, ◌-◌, drop}
 use Rattle.sal_module.specs.Places.{all_before, is_in_order}
 use Rattle.sal_module.proofs.places.+is_in_order.Given as goal

@@ -1,4 +1,4 @@
--- The statement stands in this part, if it stands anywhere.
+-- The statement is in this part, if it is anywhere.
 use Rattle.std.proofs.Common.{◌≡◌, ◌+◌, ◌*◌, ◌^◌, ℕ, true, length}
 use Rattle.sal_module.specs.Places.{find_first, find_at, all_before, is_in_order}
 use Rattle.sal_module.proofs.places.find_among.Given as goal

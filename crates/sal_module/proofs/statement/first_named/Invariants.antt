@@ -1,4 +1,4 @@
--- What is left to look through.
+-- The remaining elements to search.
 use Rattle.std.proofs.Common.{◌≡◌, drop}
 use Rattle.std.specs.Prelude.{find}
 use Rattle.sal_module.specs.Statements.{is_named}

@@ -1,4 +1,4 @@
--- What is left to look through.
+-- The remaining elements to search.
 use Rattle.std.proofs.Common.{◌≡◌, drop, map}
 use Rattle.sal_module.specs.Table.{rule_among, row_view}
 use Rattle.sal_module.proofs.table.find_rule.Given as goal

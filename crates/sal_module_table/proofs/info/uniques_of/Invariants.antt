@@ -1,4 +1,4 @@
--- What the statements so far give.
+-- The result of the statements so far.
 use Rattle.std.proofs.Common.{◌≡◌, take}
 use Rattle.std.specs.List.{flat_map}
 use Rattle.sal_module_table.specs.Lists.{uniques_in, block_of, own_stmt}

@@ -1,4 +1,4 @@
--- What the nodes so far have.
+-- The values of the nodes so far.
 use Rattle.std.proofs.Common.{◌≡◌, ℕ, ◌<◌, length, get_or, Bool, true, Option, Some}
 use Rattle.sal_module_table.specs.Inherited.{from_above, with_config}
 use Rattle.sal_module_table.proofs.inherited.configs_of.Given as goal

@@ -1,4 +1,4 @@
--- What is left to look at.
+-- The remaining elements.
 use Rattle.std.proofs.Common.{◌≡◌, drop}
 use Rattle.std.specs.List.{list_any}
 use Rattle.sal_module_table.specs.Leafrefs.{is_some_reference, seen_all}

@@ -1,4 +1,4 @@
--- What is left to compare.
+-- The remaining comparisons.
 use Rattle.std.proofs.Common.{◌≡◌, drop, nat_eq}
 use Rattle.sal_module_table.specs.Lists.{all_differ}
 use Rattle.sal_module_table.proofs.lists.all_differ.Given as goal

@@ -1,4 +1,4 @@
--- Those so far that are there.
+-- The ones so far that exist.
 use Rattle.std.proofs.Common.{◌≡◌, take}
 use Rattle.sal_module_table.specs.Lists.{given}
 use Rattle.sal_module_table.proofs.lists.given.Given as goal

@@ -1,4 +1,4 @@
--- No part that comes before the lists finds a fault.
+-- No pass before the lists finds a fault.
 use Rattle.std.proofs.Common.{◌≡◌, ℕ, List, Result, None, rules}
 use Rattle.sal_types.specs.Reading.{GivesUnless}
 use Rattle.sal_stmt.specs.declared.stmt.Stmt.{Stmt}

@@ -1,4 +1,4 @@
--- What is wanted of the statements so far, in the open block.
+-- The requirements of the statements so far, in the open block.
 use Rattle.std.proofs.Common.{◌≡◌, ◌-◌, ◌++◌, take}
 use Rattle.std.specs.List.{flat_map}
 use Rattle.sal_module.specs.Statements.{subs_of}

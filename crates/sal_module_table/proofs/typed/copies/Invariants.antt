@@ -1,4 +1,4 @@
--- Those so far.
+-- The values so far.
 use Rattle.std.proofs.Common.{◌≡◌, map, take}
 use Rattle.sal_typedefs.specs.Leafrefs.{leafref_seen}
 use Rattle.sal_module_table.proofs.typed.copies.Given as goal

@@ -1,4 +1,4 @@
--- Those of the nodes so far.
+-- The values of the nodes so far.
 use Rattle.std.proofs.Common.{◌≡◌, map, take}
 use Rattle.sal_typedefs.specs.Leafrefs.{stmt_in}
 use Rattle.sal_module_table.specs.Leafrefs.{leafrefs_at}

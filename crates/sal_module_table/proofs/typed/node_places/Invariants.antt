@@ -1,4 +1,4 @@
--- Those of the nodes so far.
+-- The values of the nodes so far.
 use Rattle.std.proofs.Common.{◌≡◌, map, take}
 use Rattle.sal_module_table.specs.Typed.{place_of_node}
 use Rattle.sal_module_table.proofs.typed.node_places.Given as goal

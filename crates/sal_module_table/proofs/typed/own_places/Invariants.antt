@@ -1,4 +1,4 @@
--- Those of the statements so far.
+-- The values of the statements so far.
 use Rattle.std.proofs.Common.{◌≡◌, take}
 use Rattle.sal_module_table.specs.Typed.{owns, places_of}
 use Rattle.sal_module_table.proofs.typed.own_places.Given as goal

@@ -1,4 +1,4 @@
--- What is wanted of the modules so far.
+-- The requirements of the modules so far.
 use Rattle.std.proofs.Common.{◌≡◌, take, []}
 use Rattle.sal_typedefs.specs.Spots.{site_in}
 use Rattle.sal_grouping.proofs.Places.{numbered}

@@ -1,4 +1,4 @@
--- What the nodes so far have.
+-- The values of the nodes so far.
 use Rattle.std.proofs.Common.{◌≡◌, ℕ, ◌<◌, length, get_or, Option, None}
 use Rattle.sal_module_table.specs.Inherited.{from_above}
 use Rattle.sal_module_table.specs.Leafrefs.{with_message}

@@ -1,4 +1,4 @@
--- The texts from the index on differ where the whole ones do.
+-- The texts from the index on differ at the same place as the whole texts.
 use Rattle.std.proofs.Common.{◌≡◌, ◌≤◌, drop, length}
 use Rattle.sal_order.specs.Differences.{difference}
 use Rattle.sal_order.proofs.differing.difference.Given as goal

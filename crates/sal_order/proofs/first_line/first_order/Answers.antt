@@ -1,4 +1,4 @@
--- The order is told, or none is, by whether the text begins with the line of it.
+-- The result is the order, or none, according to whether the text starts with the order's line.
 use Rattle.std.proofs.Common.{◌≡◌, ℕ, List, Bool, None, Option, Some, ap, sym, ◌∙◌, if◌then◌else◌}
 use Rattle.sal_order.specs.FirstLines.{line_of}
 use Rattle.sal_order.proofs.Told.{told-as}

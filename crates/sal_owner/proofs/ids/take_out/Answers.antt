@@ -1,4 +1,4 @@
--- Where there is no candidate nobody is taken out.
+-- Without candidates none is removed.
 use Rattle.std.proofs.Common.{◌≡◌, ℕ, [], true, false, None, Some, refl, ap, sym, ◌∙◌, cond, nat_eq, if◌then◌else◌}
 use Rattle.std.specs.Prelude.{is_some, not}
 use Rattle.std.specs.BTreeMap.{is_at}

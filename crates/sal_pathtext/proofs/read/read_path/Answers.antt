@@ -1,4 +1,4 @@
--- What was read fits.
+-- A path that was read fits.
 use Rattle.sal_pathtext.proofs.Walked.{read_fits}
 use Rattle.sal_pathtext.proofs.read.read_path.Goals as goal
 

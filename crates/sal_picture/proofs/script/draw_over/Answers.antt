@@ -1,4 +1,4 @@
--- What was played is what the definitions play.
+-- The play is the play of the definitions.
 use Rattle.std.proofs.Common.{◌≡◌, ℕ, List, Result, Ok, Err, ap, sym, ◌∙◌, subst}
 use Rattle.std.specs.Prelude.{option_map}
 use Rattle.sal_history.specs.World.{Domain}

@@ -1,4 +1,4 @@
--- What the script comes to is what it comes to over its world.
+-- The picture of the script is its picture over its world.
 use Rattle.std.proofs.Common.{◌≡◌, ℕ, List, Result, ap, sym, subst}
 use Rattle.std.specs.Prelude.{option_map}
 use Rattle.std.specs.Borrow.{Bor}

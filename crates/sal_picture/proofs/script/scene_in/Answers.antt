@@ -1,4 +1,4 @@
--- What is drawn goes by the log, the replies and the tables of the world.
+-- The drawing depends on the log, the replies and the tables of the world.
 use Rattle.std.proofs.Common.{◌≡◌, ℕ, List, Option, ap, length, ◌∙◌, sym}
 use Rattle.std.proofs.lemmas.List.{length-map}
 use Rattle.std.proofs.lemmas.Result.{IfOk-weaker}

@@ -1,4 +1,4 @@
--- What is read at the root is whole.
+-- Rows read at the root are whole.
 use Rattle.sal_prepare.proofs.SoundWorlds.{worlds_are_sound}
 use Rattle.sal_prepare.proofs.laws.openings_are_closed.Goals as goal
 

@@ -1,4 +1,4 @@
--- The versions of domain 0 are in order and each device has one; the values of a script are JSON, and what is read of such at the root is whole.
+-- The versions of domain 0 are in order and each device has one; the values of a script are JSON, and rows read from them at the root are whole.
 use Rattle.std.proofs.Common.{◌≡◌, ℕ, ◌+◌, ◌≤◌, List, length, map, Ok, ap, sym, ◌∙◌, subst, arith}
 use Rattle.std.specs.Prelude.{All}
 use Rattle.std.proofs.lemmas.List.{length-map}
@@ -25,7 +25,7 @@ own_in_order law parts own devices made =
     let rest = bind_ok (each_from table_by 1 parts.devices) (λ tables. Ok (versions_by (tables_of first.0) tables)) (versions_by own devices) first.2 in
     subst AreInOrder (ap (λ ts. versions_in ts 0) (same_ok rest.2)) (law parts.modules parts.upgrades first.0 (schema-ok 0 (versions_of parts.modules parts.upgrades) first.0 first.1))
 
--- what holds of lent schemas holds of these
+-- a property of lent schemas is one of these
 lent : {xs ys : List (Arc SchemaTable Global)} → xs ≡ ys → All IsTable (tables_in xs) → All IsTable (tables_in ys)
 lent same tables = subst (λ (xs : List (Arc SchemaTable Global)). All IsTable (tables_in xs)) same tables
 

@@ -16,7 +16,7 @@ use Rattle.sal_prepare.proofs.SoundWorlds.{closed_devices}
 use Rattle.sal_prepare.proofs.Worlds.{tables_from, tables_kept, versions_are}
 use Rattle.sal_prepare.proofs.openings.hub_over.Goals as goal
 
--- as many readers as domains
+-- there are as many readers as domains
 all_read : (schemas : Schemas) (readers : List (List SchemaTable)) (n : ℕ) → readers ≡ versions_shared schemas → length schemas.devices.items + 1 ≡ n → 0 + n ≡ length readers
 all_read schemas readers n is all =
     let read = ap length is in

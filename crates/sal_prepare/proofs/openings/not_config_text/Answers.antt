@@ -1,4 +1,4 @@
--- The words of the path are after those of the fault.
+-- The text of the path is after that of the fault.
 use Rattle.std.proofs.Common.{ℕ, List, ◌++◌, codes, decimal, ap, ◌∙◌}
 use Rattle.sal_prepare.proofs.openings.not_config_text.Goals as goal
 

@@ -12,6 +12,6 @@ pub returns-clause-schemas : goal.returns-clause-schemas
 returns-clause-schemas c =
     c.in_ok-schemas.ensures.tables ∙ ap (map last_among) (sym c.in_ok-readers.ensures.same ∙ c.in_ok-hub.ensures.tables) ∙ last_tables c.in_ok-hub.hub.world
 
--- nothing is said of want of memory
+-- the clause makes no statement about missing memory
 pub returns-in_err-schemas-clause-prepared : goal.returns-in_err-schemas-clause-prepared
 returns-in_err-schemas-clause-prepared c = comes_err _ (prepared_of (parts c.args.script)) _ NoMemory c.from_residual-in_err-schemas.ensures.1 tt

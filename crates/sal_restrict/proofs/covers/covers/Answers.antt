@@ -10,7 +10,7 @@ use Rattle.sal_restrict.proofs.covers.covers.Goals as goal
 abbrev none : Part
 none = record { low = pos 0; high = pos 0 }
 
--- the next part and those behind it
+-- the next part and those after it
 at : {parts : List Part} {numbers : Part} {next : ℤ} (i : ℕ) → i < length parts → IsHeldUpto parts (drop i parts) numbers next
     → IsHeldUpto parts (get_or parts i none ∷ drop (i + 1) parts) numbers next
 at {parts} {numbers} {next} i h was = subst (λ rest. IsHeldUpto parts rest numbers next) (drop_more parts i none h) was

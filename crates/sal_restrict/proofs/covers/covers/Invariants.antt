@@ -1,4 +1,4 @@
--- How far the numbers are held.
+-- Up to which number the parts cover.
 use Rattle.std.proofs.Common.{drop}
 use Rattle.sal_restrict.proofs.Numbers.{IsHeldUpto}
 use Rattle.sal_restrict.proofs.covers.covers.Given as goal

@@ -14,7 +14,7 @@ and_assoc false b d = refl
 abbrev none : Span
 none = record { low = Small (pos 0); high = Small (pos 0) }
 
--- the next part and those behind it
+-- the next part and those after it
 next : (scale : ℕ) (spans : List Span) (i : ℕ) → i < length spans
     → is_ascending (parts_of scale (drop i spans)) ≡ ((int_le (number_of scale (get_or spans i none).low) (number_of scale (get_or spans i none).high)
     && is_below (number_of scale (get_or spans i none).high) (parts_of scale (drop (i + 1) spans))) && is_ascending (parts_of scale (drop (i + 1) spans)))

@@ -1,4 +1,4 @@
--- The word stands at none of the places before.
+-- The word is at none of the places before.
 use Rattle.std.proofs.Common.{◌≡◌, ◌+◌, drop}
 use Rattle.sal_restrict.specs.Words.{place_of}
 use Rattle.sal_restrict.proofs.words.place_of.Given as goal

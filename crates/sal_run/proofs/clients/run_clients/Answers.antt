@@ -1,4 +1,4 @@
--- What each client needs goes to its thread, and what each left comes back.
+-- Each client's data go to its thread, and its results come back.
 use Rattle.std.proofs.Common.{get_or, subst}
 use denote.Param.Send.{IsSync, given_sync, sendable}
 use Rattle.std.proofs.Crossing.{crosses}

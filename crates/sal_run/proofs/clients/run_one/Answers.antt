@@ -1,4 +1,4 @@
--- The client goes by the program of its number.
+-- The client makes the steps of its own program.
 use Rattle.std.proofs.Common.{rules, ◌≡◌, ◌+◌, ◌*◌, ◌≤◌, List, Result, Ok, Err, Some, length, get_or, ap, sym, ◌∙◌, subst, refl}
 use Rattle.std.specs.Prelude.{OnOk, slice_get}
 use Rattle.std.proofs.lemmas.Option.{same_Some, slice_get_read}

@@ -1,4 +1,4 @@
--- It begins with the older list where what is left does.
+-- It begins with the older list exactly if the rest does.
 use Rattle.std.proofs.Common.{◌≡◌, drop}
 use Rattle.sal_schema.specs.Same.{begins, same_identity}
 use Rattle.sal_schema.proofs.versions.identities_begin.Given as goal

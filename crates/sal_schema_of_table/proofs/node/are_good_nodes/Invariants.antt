@@ -1,4 +1,4 @@
--- What is left to look at.
+-- The remaining elements.
 use Rattle.std.proofs.Common.{◌≡◌, drop}
 use Rattle.sal_schema.specs.Table.{all_from}
 use Rattle.sal_schema_of_table.specs.Whole.{is_good_node}

@@ -1,4 +1,4 @@
--- What is left to look at.
+-- The remaining elements.
 use Rattle.std.proofs.Common.{◌≡◌, drop}
 use Rattle.std.specs.List.{list_all}
 use Rattle.sal_schema_of_table.specs.Whole.{is_good_member}

@@ -1,4 +1,4 @@
--- What is left to look at.
+-- The remaining elements.
 use Rattle.std.proofs.Common.{◌≡◌, drop}
 use Rattle.std.specs.List.{list_all}
 use Rattle.sal_schema.specs.Valid.{is_good_type}

@@ -1,4 +1,4 @@
--- A broken broker is let go of.
+-- A broken broker is dropped.
 use Rattle.std.proofs.Common.{◌≡◌, ◌∙◌, Bool, true, Option, None, if◌then◌else◌, refl, ap, sym}
 use Rattle.sal_embed.specs.declared.clients.Clients.{Clients}
 use Rattle.sal_embed.specs.declared.fault.StepFault.{StepFault}

@@ -1,4 +1,4 @@
--- What is left to look through.
+-- The remaining elements to search.
 use Rattle.std.proofs.Common.{◌≡◌, drop, map}
 use Rattle.sal_typedefs.specs.Builtins.{builtin_among, name_view}
 use Rattle.sal_typedefs.proofs.builtin.find_builtin.Given as goal

@@ -1,4 +1,4 @@
--- Those of the first statements.
+-- The result of the first statements.
 use Rattle.std.proofs.Common.{◌≡◌, ◌+◌, ◌-◌, take}
 use Rattle.std.specs.List.{sum_by}
 use Rattle.sal_module.specs.Statements.{subs_of}

@@ -1,4 +1,4 @@
--- Those of the first modules.
+-- The result of the first modules.
 use Rattle.std.proofs.Common.{◌≡◌, take}
 use Rattle.std.specs.List.{sum_by}
 use Rattle.sal_typedefs.specs.Names.{count}

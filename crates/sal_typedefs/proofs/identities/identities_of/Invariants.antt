@@ -1,4 +1,4 @@
--- Those of the first modules.
+-- The result of the first modules.
 use Rattle.std.proofs.Common.{◌≡◌, ◌<◌, ℕ, List, take, length, get_or}
 use Rattle.std.specs.List.{sum_by}
 use Rattle.std.specs.BTreeMap.{get_by_text}

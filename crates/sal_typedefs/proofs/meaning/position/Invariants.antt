@@ -1,4 +1,4 @@
--- What is left to look through.
+-- The remaining elements to search.
 use Rattle.std.proofs.Common.{◌≡◌, drop}
 use Rattle.std.specs.List.{position_from}
 use Rattle.sal_module.specs.Keywords.{same}

@@ -1,4 +1,4 @@
--- What is left to look through.
+-- The remaining elements to search.
 use Rattle.std.proofs.Common.{◌≡◌, drop}
 use Rattle.sal_typedefs.specs.Entries.{named}
 use Rattle.sal_typedefs.proofs.numbering.named.Given as goal

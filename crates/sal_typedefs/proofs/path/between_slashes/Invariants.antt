@@ -1,4 +1,4 @@
--- What is left of the text.
+-- The rest of the text.
 use Rattle.std.proofs.Common.{◌≡◌, ◌++◌, length}
 use denote.Text.{Utf8}
 use denote.Shadow.{shadow}

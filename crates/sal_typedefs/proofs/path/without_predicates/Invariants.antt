@@ -1,4 +1,4 @@
--- What is kept, before what is left of the path.
+-- The part of the path that is kept, before the rest of it.
 use Rattle.std.proofs.Common.{◌≡◌, length, string_bytes}
 use denote.Text.{Utf8}
 use denote.Shadow.{shadow}

@@ -1,4 +1,4 @@
--- What is said is computed.
+-- The text is computed.
 use Rattle.std.proofs.Common.{refl}
 use Rattle.std.specs.Fmt.{digits}
 use Rattle.sal_stmt.specs.Words.{word_len, is_keyword}

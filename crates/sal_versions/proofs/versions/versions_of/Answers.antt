@@ -1,4 +1,4 @@
--- Each upgrade leads to one version more, or its fault stops all.
+-- Each upgrade gives one more version, or its fault ends all.
 use Rattle.std.proofs.Common.{rules, ◌≡◌, ℕ, ◌+◌, ◌≤◌, List, [], Result, map, drop, length, Ok, IsTrue, ap, sym, subst, ◌∙◌}
 use Rattle.std.proofs.lemmas.List.{drop_all}
 use Rattle.sal_types.specs.Reading.{◌>>=◌}

@@ -1,4 +1,4 @@
--- What stands ahead and behind the next shared call.
+-- The steps before and after the next shared call.
 use Rattle.std.proofs.Common.{◌≡◌, ◌+◌, ◌++◌, ℕ, List, take, drop, ap, sym, ◌∙◌}
 use Rattle.std.specs.Prelude.{map, slice_set}
 use Rattle.std.proofs.lemmas.List.{drop-map, map-set, take-map}

@@ -1,4 +1,4 @@
--- The line of the reply that waits is added, and the reply is let go of.
+-- The line of the waiting reply is added, and the reply is dropped.
 use Rattle.std.proofs.Common.{◌≡◌, ◌++◌, List, Option, ℕ, refl, ap, ◌∙◌, subst}
 use Rattle.std.specs.Prelude.{string_bytes}
 use Rattle.sal_prepare.specs.Scripted.{tables_in}

@@ -1,4 +1,4 @@
--- What is opened is over the world of what was prepared.
+-- The broker is opened over the world of the prepared script.
 use Rattle.std.proofs.Common.{Bool, Ok, ap, sym, ◌∙◌}
 use Rattle.sal_hub.specs.HubHistory.{HubHistory}
 use Rattle.sal_prepare.specs.Scripted.{seen}

@@ -1,4 +1,4 @@
--- The entry is the log's next, and nothing else changed.
+-- The entry is the log's next, and the rest is unchanged.
 use Rattle.std.proofs.Common.{◌<◌, length, true, false, refl, sym, ◌∙◌, arith}
 use Rattle.std.proofs.lemmas.Grind.{common_steps}
 use Rattle.sal_history.specs.declared.call.Call.TheVariants.{After}

@@ -1,4 +1,4 @@
--- What is kept stays the log's.
+-- The invariants hold over the new log.
 use Rattle.std.proofs.Common.{refl}
 use Rattle.sal_history.specs.declared.call.Call.TheVariants.{Begin}
 use Rattle.sal_history.specs.declared.reply.Reply.TheVariants.{Begun}

@@ -26,7 +26,7 @@ use Rattle.sal_hub.proofs.Wholes.{whole_called}
 use Rattle.sal_hub.proofs.hub.Hub.settle.Goals as goal
 use Rattle.sal_hub.proofs.hub.Hub.settle.Goals.{in-Ok, in-Err}
 
--- the same by the number that the code reads of the receipt
+-- the same for the number that the code reads from the receipt
 module _ (j j' : Noted) (p p' : Pipeline) (is : IsKept j p) (client : ℕ) (receipt : Receipt) (n : ℕ) (at : n ≡ receipt.number) (log : j'.log ≡ jotted j.log client (Settle n))
     (decided : Decides (queue_of p) (n - length p.outcomes.items) (queue_of p')) (o : Outcome) (outcome : slice_get p'.outcomes.items (n - 1) ≡ Some o) where
   log_now : j'.log ≡ jotted j.log client (Settle receipt.number)

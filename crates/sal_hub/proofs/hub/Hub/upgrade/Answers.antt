@@ -1,4 +1,4 @@
--- What is kept stays the log's.
+-- The invariants hold over the new log.
 use Rattle.std.proofs.Common.{◌≤◌, refl, sym, subst}
 use Rattle.sal_history.specs.declared.call.Call.TheVariants.{Upgrade}
 use Rattle.sal_history.specs.declared.reply.Reply.TheVariants.{Accepted}

@@ -1,4 +1,4 @@
--- So many are decided, and the rest is still to be.
+-- The first ones are decided, and the remaining ones will be.
 use Rattle.std.proofs.Common.{◌≡◌, ◌≤◌, ◌-◌, length}
 use Rattle.sal_hub.specs.PipelineView.{AllKept, Decides, HasGrown, queue_of}
 use Rattle.sal_hub.proofs.pipeline.Pipeline.decide_upto.Given as goal

@@ -1,4 +1,4 @@
--- Nothing else of the domain changes.
+-- The rest of the domain is unchanged.
 use Rattle.std.proofs.Common.{refl}
 use Rattle.sal_hub.proofs.Mounting.{line_with}
 use Rattle.sal_hub.proofs.pipeline.Pipeline.set_live.Goals as goal

@@ -1,4 +1,4 @@
--- What was decided before memory was wanting is taken back.
+-- The decisions before memory ran out are undone.
 use Rattle.std.proofs.Common.{◌≡◌, ◌-◌, List, drop, length, map, take, ap, sym, ◌∙◌, subst, arith}
 use Rattle.std.proofs.lemmas.Grind.{common_steps}
 use Rattle.sal_commit.specs.declared.domain.Domain.{Domain}
@@ -32,7 +32,7 @@ returns-clause-same c =
     let forgotten : c.cut_back.new.self.failures.items ≡ cut_failures (length old.outcomes.items) new.failures.items = c.cut_back.ensures.failures ∙ ap (λ n. cut_failures n new.failures.items) count in
     taken_back old new c.requires.kept c.in-Err.ensures.grown c.in_ok-counts.counts.items counts c.cut_back.new.self.domains.items c.cut_back.new.self.gone c.cut_back.new.self.waiting.items c.cut_back.new.self.outcomes.items c.cut_back.new.self.failures.items cut c.cut_back.ensures.gone c.cut_back.ensures.waiting taken forgotten
 
--- what is decided is let go
+-- a decided submission is removed from the queue
 pub returns-in-Ok-clause-decided : goal.returns-in-Ok-clause-decided
 returns-in-Ok-clause-decided c = λ ss sound.
     let old = c.args.self.now in

@@ -1,4 +1,4 @@
--- The first domain alone changes.
+-- Only the first domain changes.
 use Rattle.sal_hub.proofs.Listed.{slice_get_at}
 use Rattle.sal_hub.proofs.Serving.{kept_at}
 use Rattle.sal_hub.proofs.Upgrading.{kept_upgraded, line_upgraded}

@@ -1,4 +1,4 @@
--- Without a read none stands over the path.
+-- Without a read there is none at a prefix of the path.
 use Rattle.std.proofs.Common.{◌≡◌, false, sym, ap, ◌∙◌}
 use Rattle.sal_rows.specs.Apply.{is_read}
 use Rattle.sal_mod.specs.Held.{has_reads}

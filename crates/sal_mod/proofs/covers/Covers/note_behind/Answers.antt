@@ -1,4 +1,4 @@
--- A put or delete is noted among the writes, a read among the reads, and a merge nowhere.
+-- A put or delete is recorded as a write, a read as a read, and a merge not at all.
 use Rattle.std.proofs.Common.{◌≡◌, true, false, length, refl, sym, ◌∙◌}
 use Rattle.std.proofs.lemmas.Result.{on_ok_weaker}
 use Rattle.sal_rows.specs.Apply.{checks_path, is_read}

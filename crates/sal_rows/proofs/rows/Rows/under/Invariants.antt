@@ -1,4 +1,4 @@
--- The copies made so far are those of the rows before the index that stand below the path.
+-- The copies made so far are the rows before the index that are below the path.
 use Rattle.std.proofs.Common.{◌≡◌, take}
 use Rattle.sal_types.specs.Tree.{under}
 use Rattle.sal_rows.proofs.rows.Rows.under.Given as goal

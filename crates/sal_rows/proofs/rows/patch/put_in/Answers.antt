@@ -1,4 +1,4 @@
--- The row is set where the search found its place.
+-- The row is set at the place that the search found.
 use Rattle.std.proofs.Common.{◌≡◌, ◌<◌, ◌≤◌, List, length, get_or, ap, sym, ◌∙◌, subst, if◌then◌else◌}
 use Rattle.std.specs.List.{insert}
 use Rattle.std.specs.Result.{is_ok}

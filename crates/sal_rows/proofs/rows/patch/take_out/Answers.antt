@@ -1,4 +1,4 @@
--- The row is taken out where the search found it.
+-- The row is removed at the place that the search found.
 use Rattle.std.proofs.Common.{◌≡◌, ◌<◌, List, length, get_or, ap, sym, ◌∙◌, subst}
 use Rattle.std.specs.declared.cmp.Ordering.TheVariants.{Equal}
 use Rattle.sal_types.specs.declared.row.Row.{Row}

@@ -1,4 +1,4 @@
--- It is derived from all bases where it is from those that are left.
+-- It is derived from all bases exactly if it is from the remaining ones.
 use Rattle.std.proofs.Common.{◌≡◌, drop}
 use Rattle.std.specs.List.{list_all}
 use Rattle.sal_schema.specs.Table.{is_derived}

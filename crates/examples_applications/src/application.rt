@@ -28,7 +28,7 @@ pub(crate) fn take_numbers<R: Wait>(
     ensures { IfOk result (λ back. Keeps sal.now seat back) }
 {
     for _ in 0..NUMBERS {
-        seat = take_number(rt, alloc, sal, seat, counter)?;
+        take_number(rt, alloc, sal, &mut seat, counter)?;
     }
     Ok(seat)
 }
@@ -38,15 +38,15 @@ fn take_number<R: Wait>(
     rt: &R,
     alloc: Global,
     sal: &Sal,
-    mut seat: Seat,
+    seat: &mut Seat,
     counter: &Counter,
-) -> anyhow::Result<Seat>
-    requires { seat.lock ≡ sal.now }
-    ensures { IfOk result (λ back. Keeps sal.now seat back) }
+) -> anyhow::Result<()>
+    requires { seat.old.lock ≡ sal.now }
+    ensures { Keeps sal.now seat.old seat.new }
 {
     for _ in 0..TRIES {
-        if try_once(rt, alloc, sal, &mut seat, counter)? {
-            return Ok(seat);
+        if try_once(rt, alloc, sal, seat, counter)? {
+            return Ok(());
         }
     }
     bail!("the other application took more numbers than it wanted")

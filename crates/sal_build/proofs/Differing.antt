@@ -7,7 +7,7 @@ use Rattle.std.proofs.lemmas.Bool.Decides.{nat_tests}
 use Rattle.sal_module.specs.Keywords.{same}
 use Rattle.sal_schema.specs.Valid.{all_differ}
 use Rattle.sal_schema.proofs.Conjuncts.{and_first, and_second, or_first, or_second}
-use Rattle.sal_module_table.proofs.LeafWord.{same-text}
+use Rattle.sal_module.proofs.Initials.{same-text}
 use Rattle.sal_build.proofs.Distinct.{true-is, false-is}
 use Rattle.sal_build.proofs.Quiet.{both}
 

@@ -24,7 +24,7 @@ use Rattle.sal_module_table.specs.Identities.{Identity, identity_here, identitie
 use Rattle.sal_build.specs.Laws.{IdentityNamesDiffer}
 use Rattle.sal_build.proofs.Built.{IsBuiltOn, built_on, nodes_of}
 use Rattle.sal_build.proofs.Distinct.{called-same, same-itself, false-is, true-is, pairs, are_apart, distinct-pairs}
-use Rattle.sal_module_table.proofs.LeafWord.{same-text}
+use Rattle.sal_module.proofs.Initials.{same-text}
 use Rattle.sal_build.proofs.NamedModules.{rule-named}
 use Rattle.sal_build.proofs.Quiet.{both, front-nil, all-joined}
 use Rattle.sal_build.proofs.Numbers.{take-front}

@@ -36,7 +36,7 @@ use Rattle.sal_module_table.specs.Nodes.{kind_among, kind_in, kind_of, has}
 use Rattle.sal_module_table.specs.Table.{infos_from}
 use Rattle.sal_build.proofs.Built.{IsBuiltOn, built_on, forest_by, nodes_of}
 use Rattle.sal_build.proofs.Grown.{AreGrown, built-grown}
-use Rattle.sal_module_table.proofs.LeafWord.{same-text}
+use Rattle.sal_module.proofs.Initials.{same-text}
 use Rattle.sal_build.proofs.NamedNodes.{rule_given, rule-by, none-fits}
 use Rattle.sal_build.proofs.OwnStatements.{AreOwn, own-rows, not-extension, block-quiet}
 use Rattle.sal_build.proofs.Quiet.{both, front-nil}

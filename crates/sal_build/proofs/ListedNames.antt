@@ -21,7 +21,7 @@ use Rattle.sal_restrict.proofs.Numbers.{le_test, le_passes}
 use Rattle.sal_schema.specs.Valid.{all_differ}
 use Rattle.sal_schema.proofs.Conjuncts.{and_first, and_second, or_first, or_second}
 use Rattle.sal_typedefs.specs.Entries.{has_form, text_of, stated, is_malformed, has_name, has_number, next, number_of, is_bad, named, entry_of, is_faulty, entries_of, entry_faults, greatest, differs_from}
-use Rattle.sal_module_table.proofs.LeafWord.{same-text}
+use Rattle.sal_module.proofs.Initials.{same-text}
 use Rattle.sal_build.proofs.Entries.{TypeEntry, TypeNumbering, bits, wrong}
 use Rattle.sal_build.proofs.Differing.{differ-last, differ-more, found-passes, found-good, found-same}
 use Rattle.sal_build.proofs.Distinct.{same-itself}

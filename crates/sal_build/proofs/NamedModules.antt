@@ -23,7 +23,7 @@ use Rattle.sal_schema.specs.Valid as valid
 use Rattle.sal_schema.proofs.Conjuncts.{and_first, and_second}
 use Rattle.sal_grouping.proofs.IndexLists.{not-false}
 use Rattle.sal_build.specs.Laws.{ModulesAreNamed}
-use Rattle.sal_module_table.proofs.LeafWord.{same-text}
+use Rattle.sal_module.proofs.Initials.{same-text}
 use Rattle.sal_build.proofs.Built.{IsBuiltOn, built_on, nodes_of}
 use Rattle.sal_build.proofs.Quiet.{both, front-nil, numbered-quiet, all-map}
 

@@ -21,7 +21,7 @@ use Rattle.sal_schema.proofs.Conjuncts.{and_first, and_second}
 use Rattle.sal_typedefs.specs.Scopes.{Site, top, way_to, site_at}
 use Rattle.sal_build.specs.Readable.{places, has_own_places}
 use Rattle.sal_build.proofs.Distinct.{true-is}
-use Rattle.sal_module_table.proofs.LeafWord.{same-text}
+use Rattle.sal_module.proofs.Initials.{same-text}
 use Rattle.sal_build.proofs.OwnPlaces.{differ-tail, differ-parts, way-any, site-stmt, way-later, way-inside}
 use Rattle.sal_build.proofs.NamedModules.{rule-named}
 use Rattle.sal_build.proofs.Quiet.{front-nil}

@@ -20,7 +20,7 @@ use Rattle.sal_typedefs.specs.Types.{entries_in, restricted, names_in, places_of
 use Rattle.sal_schema.specs.declared.table.SchemaTable.{SchemaTable}
 use Rattle.sal_schema.specs.Valid.{all_differ, text_eq, are_named}
 use Rattle.sal_schema.proofs.Conjuncts.{and_first, and_second}
-use Rattle.sal_module_table.proofs.LeafWord.{same-text}
+use Rattle.sal_module.proofs.Initials.{same-text}
 use Rattle.sal_build.specs.Laws.{NamesArePlaced, is_placed, of_each}
 use Rattle.sal_build.proofs.Entries.{TypeEntry, TypeNumbering, enums, bits}
 use Rattle.sal_build.proofs.Built.{IsBuiltOn, built_on, forest_by, nodes_of}

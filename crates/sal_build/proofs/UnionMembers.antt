@@ -35,7 +35,7 @@ use Rattle.sal_module_table.specs.Leafrefs.{type_in, stated_type, sound_type, ow
 use Rattle.sal_module_table.specs.Nodes.{kind_of}
 use Rattle.sal_module_table.specs.Types as types
 use Rattle.sal_module_table.proofs.Fillings.{type-zero, type-suc}
-use Rattle.sal_module_table.proofs.LeafWord.{same-text}
+use Rattle.sal_module.proofs.Initials.{same-text}
 use Rattle.sal_build.specs.Laws.{UnionsHaveMembers, has_members}
 use Rattle.sal_build.specs.Readable.{is_readable, is_shallow}
 use Rattle.sal_build.proofs.Entries.{TypeEntry, wrong}

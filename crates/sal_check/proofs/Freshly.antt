@@ -1,5 +1,6 @@
 -- Two entries agree exactly if a fresh one agrees with another one, if none did before.
 use Rattle.std.proofs.Common.{◌≡◌, ℕ, Bool, true, false, cond, not, ◌&&◌, ◌||◌, List, [], ◌∷◌, ◌++◌, inl, inr, Option, Some, None, refl, sym, ap, subst, ◌∙◌, if◌then◌else◌}
+use Rattle.std.proofs.lemmas.Bool.{or_left}
 use Rattle.std.specs.Prelude.{T, is_some}
 use Rattle.std.specs.List.{list_any, flat_map}
 use Rattle.std.specs.Option.{option_to_list}
@@ -149,10 +150,6 @@ module _ (stamps : List ℕ) (ways : List (List Step)) (before : Option Tree) (n
     abbrev answer : Bool
     answer = has_double freshes || list_any (is_among freshes) others
 
-    left_true : (a b : Bool) → a ≡ true → (a || b) ≡ true
-    left_true true b e = refl
-    left_true false b e = cc
-
     right_true : (a b : Bool) → b ≡ true → (a || b) ≡ true
     right_true true b e = refl
     right_true false b e = e
@@ -167,7 +164,7 @@ module _ (stamps : List ℕ) (ways : List (List Step)) (before : Option Tree) (n
     told t = by_tests (fresh t.one) (fresh t.other) refl refl
       where
         by_tests : (a b : Bool) → fresh t.one ≡ a → fresh t.other ≡ b → answer ≡ true
-        by_tests true true new also = left_true (has_double freshes) (list_any (is_among freshes) others) (double-in (fresh_of stamps ways before) es t.one t.other t.cells t.others t.in_one t.in_other t.apart (fresh-in t.one t.cells new t.has_one) (fresh-in t.other t.others also t.has_other) t.alike)
+        by_tests true true new also = or_left (has_double freshes) (list_any (is_among freshes) others) (double-in (fresh_of stamps ways before) es t.one t.other t.cells t.others t.in_one t.in_other t.apart (fresh-in t.one t.cells new t.has_one) (fresh-in t.other t.others also t.has_other) t.alike)
         by_tests true false new old = mixed t.one t.other t.cells t.others t.in_one t.in_other new old t.has_one t.has_other (same-IsEquivalence.symm t.others t.cells ∙ t.alike)
         by_tests false true old new = mixed t.other t.one t.others t.cells t.in_other t.in_one new old t.has_other t.has_one t.alike
         by_tests false false old also = absurd (no-stale (record { one = t.one; other = t.other; cells = t.cells; others = t.others; in_one = t.in_one; in_other = t.in_other; apart = t.apart; has_one = other-in t.one t.cells old t.has_one; has_other = other-in t.other t.others also t.has_other; alike = t.alike }))
@@ -202,7 +199,7 @@ module _ (stamps : List ℕ) (ways : List (List Step)) (before : Option Tree) (n
     agree-freshly = by_tests (has_double freshes) (list_any (is_among freshes) others) (has_double (flat_map (combination ways) es)) refl refl refl ∙ ap has_double (sym (flat-combinations ways es))
       where
         by_tests : (a b c : Bool) → has_double freshes ≡ a → list_any (is_among freshes) others ≡ b → has_double (flat_map (combination ways) es) ≡ c → answer ≡ has_double (flat_map (combination ways) es)
-        by_tests true b c x y z = left_true (has_double freshes) (list_any (is_among freshes) others) x ∙ sym (fresh-double (double-out (fresh_of stamps ways before) fresh-short es sorted x))
+        by_tests true b c x y z = or_left (has_double freshes) (list_any (is_among freshes) others) x ∙ sym (fresh-double (double-out (fresh_of stamps ways before) fresh-short es sorted x))
         by_tests false true c x y z = right_true (has_double freshes) (list_any (is_among freshes) others) y ∙ sym (among-double y)
         by_tests false false true x y z = told (double-out (combination ways) (combination-short ways) es sorted z) ∙ sym z
         by_tests false false false x y z = (λ i. x i || y i) ∙ sym z

@@ -1,5 +1,6 @@
 -- The walk over two trees finds the breaches of the later one, where the earlier one has none and is kept but for new stamps.
-use Rattle.std.proofs.Common.{◌≡◌, ℕ, Bool, true, false, cond, ◌&&◌, ◌||◌, not, List, [], ◌∷◌, ◌++◌, inl, inr, Option, Some, None, refl, sym, ap, subst, ◌∙◌, length, map}
+use Rattle.std.proofs.Common.{◌≡◌, ℕ, Bool, true, false, cond, ◌&&◌, ◌||◌, List, [], ◌∷◌, ◌++◌, inl, inr, Option, Some, None, refl, sym, ap, subst, ◌∙◌, length, map}
+use Rattle.std.proofs.lemmas.Bool.{and_parts, or_parts}
 use Rattle.std.specs.Prelude.{◌==◌, nat_le, nat_lt, if◌then◌else◌}
 use Rattle.std.specs.List.{fold, flat_map, list_any}
 use Rattle.std.specs.FinMap.{find}
@@ -121,14 +122,6 @@ as_told : (l h s d e c f : Bool) (b : Breach) → d ≡ true → (if (l && (h &&
 as_told l h s d true c f b is none = subst (λ d. (if (l && (h && (s && (d && c)))) && f then b ∷ [] else []) ≡ []) is none
 as_told l h s d false c f b is none = untold l h s f b
 
-and_left : (a b : Bool) → (a && b) ≡ true → a ≡ true
-and_left true b e = refl
-and_left false b e = e
-
-and_right : (a b : Bool) → (a && b) ≡ true → b ≡ true
-and_right true b e = e
-and_right false b e = cc
-
 -- if a rule gives no breach, two tests that are then the same give the same
 told_same : (l f v x y : Bool) (b : Breach) → (v ≡ false → x ≡ y) → (if (l && v) && f then b ∷ [] else []) ≡ [] → (if (l && x) && f then b ∷ [] else []) ≡ (if (l && y) && f then b ∷ [] else [])
 told_same false f v x y b same none = refl
@@ -141,15 +134,7 @@ told_same true false true false false b same none = refl
 
 any-same : {X : Type 0} (f g h : X → Bool) (xs : List X) → ((x : X) → f x ≡ false → g x ≡ h x) → list_any f xs ≡ false → list_any g xs ≡ list_any h xs
 any-same f g h [] each none = refl
-any-same f g h (x ∷ xs) each none = λ i. each x (or_first (f x) (list_any f xs) none) i || any-same f g h xs each (or_second (f x) (list_any f xs) none) i
-  where
-    or_first : (a b : Bool) → (a || b) ≡ false → a ≡ false
-    or_first true b e = cc
-    or_first false b e = refl
-
-    or_second : (a b : Bool) → (a || b) ≡ false → b ≡ false
-    or_second true b e = cc
-    or_second false b e = e
+any-same f g h (x ∷ xs) each none = λ i. each x (or_parts (f x) (list_any f xs) none).0 i || any-same f g h xs each (or_parts (f x) (list_any f xs) none).1 i
 
 module _ (stamps : List ℕ) (table : SchemaTable) (store : Store) (place : List Step) (m : Option ℕ) (b t : Tree) (was : IsGrove b.kids) (good : IsGrove t.kids) (keeps : Keeps stamps b t) where
   abbrev told : Rule → Bool → List Breach
@@ -191,15 +176,15 @@ module _ (stamps : List ℕ) (table : SchemaTable) (store : Store) (place : List
   settled (Mandatory n) e none = cc
   settled (MinElements n) e none =
       let p : List Step = way table n ++ Node n ∷ [] in
-      let tests : (is_demanded table (seen_in (Some b)) n && is_kept stamps (at (Some t) p)) ≡ true = and_right (has_minimum table n) _ e in
-      let was : is_demanded table (seen_in (Some b)) n ≡ true = and_left _ (is_kept stamps (at (Some t) p)) tests in
-      let list : at (Some b) p ≡ at (Some t) p = kept-same stamps (Some b) (Some t) p keeps (and_right (is_demanded table (seen_in (Some b)) n) _ tests) in
+      let tests : (is_demanded table (seen_in (Some b)) n && is_kept stamps (at (Some t) p)) ≡ true = (and_parts (has_minimum table n) _ e).1 in
+      let was : is_demanded table (seen_in (Some b)) n ≡ true = (and_parts _ (is_kept stamps (at (Some t) p)) tests).0 in
+      let list : at (Some b) p ≡ at (Some t) p = kept-same stamps (Some b) (Some t) p keeps (and_parts (is_demanded table (seen_in (Some b)) n) _ tests).1 in
       let few : nat_lt (length (own_steps (kids_in (at (Some b) p)))) (min_elements table n) ≡ nat_lt (length (own_steps (kids_in (at (Some t) p)))) (min_elements table n) = ap (λ (o : Option Tree). nat_lt (length (own_steps (kids_in o))) (min_elements table n)) list in
       ap (λ c. told (MinElements n) (has_minimum table n && (is_same (stand table n) m && (is_demanded table (seen_in (Some t)) n && c)))) (sym few)
       ∙ as_told (is_looked_at table store n) (has_minimum table n) (is_same (stand table n) m) (is_demanded table (seen_in (Some b)) n) (is_demanded table (seen_in (Some t)) n)
       (nat_lt (length (own_steps (kids_in (at (Some b) p)))) (min_elements table n)) (nat_le (length (place ++ p)) 32) (record { path = place ++ p; rule = MinElements n }) was none
-  settled (MaxElements n) e none = ap (told (MaxElements n)) (sym (too_many-local table m n (seen_in (Some b)) (seen_in (Some t)) (same_list n (and_right (is_kind has_entries table n) _ e)))) ∙ none
-  settled (Unique n) e none = ap (told (Unique n)) (sym (repeats-local table m n (seen_in (Some b)) (seen_in (Some t)) (same_list n (and_right (is_kind has_entries table n) _ e)))) ∙ none
+  settled (MaxElements n) e none = ap (told (MaxElements n)) (sym (too_many-local table m n (seen_in (Some b)) (seen_in (Some t)) (same_list n (and_parts (is_kind has_entries table n) _ e).1))) ∙ none
+  settled (Unique n) e none = ap (told (Unique n)) (sym (repeats-local table m n (seen_in (Some b)) (seen_in (Some t)) (same_list n (and_parts (is_kind has_entries table n) _ e).1))) ∙ none
   settled (TwoCases n) e none = cc
 
   one : (rule : Rule) → breach_of table store place (seen_in (Some b)) m rule ≡ [] → near_of stamps table store place (Some b) t m rule ≡ breach_of table store place (seen_in (Some t)) m rule

@@ -1,5 +1,6 @@
 -- If no rule is stated, none is broken.
 use Rattle.std.proofs.Common.{◌≡◌, ℕ, ◌<◌, Bool, true, false, ◌&&◌, ◌||◌, List, [], ◌∷◌, ◌++◌, Option, Some, None, length, refl, sym, ap, ◌∙◌, arith}
+use Rattle.std.proofs.lemmas.Bool.{and_parts, or_left, or_right}
 use Rattle.std.specs.Prelude.{nat_le, nat_lt, is_some, if◌then◌else◌}
 use Rattle.std.specs.List.{flat_map, list_any}
 use Rattle.std.proofs.lemmas.Bool.Decides.{nat_tests}
@@ -21,22 +22,6 @@ use Rattle.sal_check.specs.Nodes.{states}
 
 -- ---- tests
 
-pub left_true : (a b : Bool) → (a && b) ≡ true → a ≡ true
-left_true true b e = refl
-left_true false b e = e
-
-pub right_true : (a b : Bool) → (a && b) ≡ true → b ≡ true
-right_true true b e = e
-right_true false b e = cc
-
-pub either_left : (a b : Bool) → a ≡ true → (a || b) ≡ true
-either_left true b e = refl
-either_left false b e = cc
-
-pub either_right : (a b : Bool) → b ≡ true → (a || b) ≡ true
-either_right true b e = refl
-either_right false b e = e
-
 -- ---- one rule
 
 past-some : (o : Option ℕ) (n : ℕ) → is_past o n ≡ true → is_some o ≡ true
@@ -53,16 +38,16 @@ any-some p (x ∷ xs) e = positive (length (x ∷ xs)) (omega arith)
 module _ (table : SchemaTable) (see : Seen) (m : Option ℕ) where
   -- a rule that is broken is stated
   pub broken-states : (rule : Rule) → broken table see m rule ≡ true → states table (node_of_rule rule) ≡ true
-  broken-states (Mandatory n) e = either_left _ _ (left_true (is_required table n) _ e)
-  broken-states (MinElements n) e = either_right (is_required table n) _ (either_left _ _ (left_true (has_minimum table n) _ e))
+  broken-states (Mandatory n) e = or_left _ _ (and_parts (is_required table n) _ e).0
+  broken-states (MinElements n) e = or_right (is_required table n) _ (or_left _ _ (and_parts (has_minimum table n) _ e).0)
   broken-states (MaxElements n) e =
-      let past : is_past (max_elements table n) (count see n) ≡ true = right_true (is_same (data_parent table n) m) _ (right_true (is_kind has_entries table n) _ e) in
-      either_right (is_required table n) _ (either_right (has_minimum table n) _ (either_left _ _ (past-some (max_elements table n) (count see n) past)))
+      let past : is_past (max_elements table n) (count see n) ≡ true = (and_parts (is_same (data_parent table n) m) _ (and_parts (is_kind has_entries table n) _ e).1).1 in
+      or_right (is_required table n) _ (or_right (has_minimum table n) _ (or_left _ _ (past-some (max_elements table n) (count see n) past)))
   broken-states (Unique n) e =
-      let same : repeats table see n ≡ true = right_true (is_same (data_parent table n) m) _ (right_true (is_kind is_list table n) _ e) in
-      either_right (is_required table n) _ (either_right (has_minimum table n) _ (either_right (is_some (max_elements table n)) _ (either_left _ _ (any-some _ (uniques_of table n) same))))
+      let same : repeats table see n ≡ true = (and_parts (is_same (data_parent table n) m) _ (and_parts (is_kind is_list table n) _ e).1).1 in
+      or_right (is_required table n) _ (or_right (has_minimum table n) _ (or_right (is_some (max_elements table n)) _ (or_left _ _ (any-some _ (uniques_of table n) same))))
   broken-states (TwoCases n) e =
-      either_right (is_required table n) _ (either_right (has_minimum table n) _ (either_right (is_some (max_elements table n)) _ (either_right (nat_lt 0 (length (uniques_of table n))) _ (left_true (is_kind is_choice table n) _ e))))
+      or_right (is_required table n) _ (or_right (has_minimum table n) _ (or_right (is_some (max_elements table n)) _ (or_right (nat_lt 0 (length (uniques_of table n))) _ (and_parts (is_kind is_choice table n) _ e).0)))
 
   kept : (rule : Rule) → states table (node_of_rule rule) ≡ false → broken table see m rule ≡ false
   kept rule none = elim (broken table see m rule) as (λ b. broken table see m rule ≡ b → b ≡ false) [

@@ -1,5 +1,6 @@
 -- Two entries of a list that have the same cells.
 use Rattle.std.proofs.Common.{◌≡◌, Bool, true, false, ◌||◌, List, [], ◌∷◌, ◌++◌, inl, inr, Some, None, refl, sym, ap, subst, ◌∙◌}
+use Rattle.std.proofs.lemmas.Bool.{or_right}
 use Rattle.std.specs.Prelude.{T, ◌⊎◌}
 use Rattle.std.specs.List.{list_any, flat_map}
 use Rattle.std.specs.FinMap.{find, is_sorted}
@@ -17,10 +18,6 @@ use Rattle.sal_check.proofs.Walked.{find-in}
 pub use Rattle.sal_node.proofs.Entries.{Entries}
 
 -- ---- lists of cells
-
-or_right : (a b : Bool) → b ≡ true → (a || b) ≡ true
-or_right true b e = refl
-or_right false b e = e
 
 pub any-in : (f : List Cell → Bool) (xs : List (List Cell)) (x : List Cell) → In x xs → f x ≡ true → list_any f xs ≡ true
 any-in f [] x i e = absurd i

@@ -1,5 +1,6 @@
 -- The walk over the nodes of a tree finds the breaches of its rows, and no others.
 use Rattle.std.proofs.Common.{◌≡◌, ℕ, ◌+◌, Bool, true, false, cond, ◌&&◌, ◌||◌, List, [], ◌∷◌, ◌++◌, inl, inr, Option, Some, None, refl, sym, ap, subst, ◌∙◌, append_assoc, append-nil, map}
+use Rattle.std.proofs.lemmas.Bool.{and_parts, or_left, or_right, and_from}
 use Rattle.std.proofs.Common.{arith}
 use Rattle.std.proofs.lemmas.Bool.Decides.{nat_tests}
 use Rattle.std.specs.Prelude.{T, nat_eq, if◌then◌else◌}
@@ -35,15 +36,11 @@ use Rattle.sal_rules.specs.Seen.{Seen, seen_from}
 use Rattle.sal_check.proofs.Least.{least-same}
 use Rattle.sal_check.proofs.Members.{In, In-front, In-back, In-either, In-flat, In-from, In-map, In-from_map, In-kept, In-was}
 use Rattle.sal_check.proofs.SeenTrees.{seen-rows_of, at_none}
-use Rattle.sal_check.proofs.Stated.{left_true, right_true, either_left, broken-states}
+use Rattle.sal_check.proofs.Stated.{broken-states}
 pub use Rattle.sal_check.proofs.Stated.{either_right}
 use Rattle.sal_tree.proofs.Follows.{some_same}
 
 -- ---- tests
-
-both_true : (a b : Bool) → a ≡ true → b ≡ true → (a && b) ≡ true
-both_true true b e f = f
-both_true false b e f = cc
 
 same_number : (a b : ℕ) → nat_eq a b ≡ true → nat_eq (a + 1) (b + 1) ≡ true
 same_number a b e = grind (arith, nat_tests)
@@ -61,10 +58,10 @@ module _ (table : SchemaTable) (see : Seen) (m : Option ℕ) where
   is_at n = nat_eq (slot (stand table n)) (slot m) || nat_eq (slot (data_parent table n)) (slot m)
 
   at_stand : (n : ℕ) (a b : Bool) → (a && (is_same (stand table n) m && b)) ≡ true → is_at n ≡ true
-  at_stand n a b e = either_left _ _ (same_slot (stand table n) m (left_true _ b (right_true a _ e)))
+  at_stand n a b e = or_left _ _ (same_slot (stand table n) m (and_parts _ b (and_parts a _ e).1).0)
 
   at_parent : (n : ℕ) (a b : Bool) → (a && (is_same (data_parent table n) m && b)) ≡ true → is_at n ≡ true
-  at_parent n a b e = either_right (nat_eq (slot (stand table n)) (slot m)) _ (same_slot (data_parent table n) m (left_true _ b (right_true a _ e)))
+  at_parent n a b e = or_right (nat_eq (slot (stand table n)) (slot m)) _ (same_slot (data_parent table n) m (and_parts _ b (and_parts a _ e).1).0)
 
   broken-at : (rule : Rule) → broken table see m rule ≡ true → is_at (node_of_rule rule) ≡ true
   broken-at (Mandatory n) e = at_stand n _ _ e
@@ -74,7 +71,7 @@ module _ (table : SchemaTable) (see : Seen) (m : Option ℕ) where
   broken-at (TwoCases n) e = at_parent n _ _ e
 
   broken-judged : (rule : Rule) → broken table see m rule ≡ true → is_judged_in table (slot m) (node_of_rule rule) ≡ true
-  broken-judged rule e = both_true (states table (node_of_rule rule)) (is_at (node_of_rule rule)) (broken-states table see m rule e) (broken-at rule e)
+  broken-judged rule e = and_from (states table (node_of_rule rule)) (is_at (node_of_rule rule)) (broken-states table see m rule e) (broken-at rule e)
 
   rule_of_node : (n : ℕ) (rule : Rule) → In rule (rules_of n) → node_of_rule rule ≡ n
   rule_of_node n rule (inl e) = ap node_of_rule e
@@ -89,7 +86,7 @@ module _ (table : SchemaTable) (see : Seen) (m : Option ℕ) where
     in_one a c rule b x i = by_test ((a && broken table see m rule) && c) refl i
       where
         by_test : (t : Bool) → ((a && broken table see m rule) && c) ≡ t → In b (if t then x ∷ [] else []) → broken table see m rule ≡ true
-        by_test true e i = right_true a _ (left_true _ c e)
+        by_test true e i = (and_parts a _ (and_parts _ c e).0).1
         by_test false e i = absurd i
 
     breach-broken : (rule : Rule) (b : Breach) → In b (breach_of table store place see m rule) → broken table see m rule ≡ true
@@ -135,8 +132,8 @@ prefix-in [] [] e = inl refl
 prefix-in [] (t ∷ r) e = inl refl
 prefix-in (s ∷ q) [] e = cc
 prefix-in (s ∷ q) (t ∷ r) e =
-    let head : s ≡ t = same s t (left_true (eq s t) (is_prefix q r) e) in
-    inr (subst (λ u. In (u ∷ q) (map (λ p. t ∷ p) (prefixes r))) (sym head) (In-map (λ p. t ∷ p) (prefixes r) q (prefix-in q r (right_true (eq s t) (is_prefix q r) e))))
+    let head : s ≡ t = same s t (and_parts (eq s t) (is_prefix q r) e).0 in
+    inr (subst (λ u. In (u ∷ q) (map (λ p. t ∷ p) (prefixes r))) (sym head) (In-map (λ p. t ∷ p) (prefixes r) q (prefix-in q r (and_parts (eq s t) (is_prefix q r) e).1)))
 
 prefix-of : (q r : List Step) → In q (prefixes r) → is_prefix q r ≡ true
 prefix-of q [] (inl e) = ap (λ p. is_prefix p []) e
@@ -156,8 +153,8 @@ has-in (row ∷ rows) q e = elim (is_prefix q row.path) as (λ b. is_prefix q ro
 has-from : (rows : List Row) (q : List Step) → In q (flat_map (λ (row : Row). prefixes row.path) rows) → has rows q ≡ true
 has-from [] q i = absurd i
 has-from (row ∷ rows) q i = elim (In-either q (prefixes row.path) (flat_map (λ (row : Row). prefixes row.path) rows) i) [
-  | inl h ↦ either_left _ _ (prefix-of q row.path h)
-  | inr h ↦ either_right (is_prefix q row.path) _ (has-from rows q h)
+  | inl h ↦ or_left _ _ (prefix-of q row.path h)
+  | inr h ↦ or_right (is_prefix q row.path) _ (has-from rows q h)
 ]
 
 -- ---- children

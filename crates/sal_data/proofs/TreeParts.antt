@@ -4,7 +4,7 @@ use Rattle.std.specs.Prelude.{◌||◌, is_some}
 use Rattle.std.specs.List.{filter}
 use Rattle.std.specs.Option.{option_map_or}
 use Rattle.std.specs.Ordering.{eq_by_cmp}
-use Rattle.std.proofs.lemmas.Bool.{and_parts, and_from}
+use Rattle.std.proofs.lemmas.Bool.{and_parts, and_from, or_right}
 use Rattle.sal_types.specs.declared.value.Value.{Value}
 use Rattle.sal_types.specs.declared.value.Cell.TheVariants.{Leaf}
 use Rattle.sal_types.specs.declared.value.Step.{Step}
@@ -66,10 +66,6 @@ module _ (table : SchemaTable) (tree : List Row) (whole : IsWhole table [] tree)
       by q here true below = same_whole q below ∙ here
       by q here false below = refl
 
-  either : (a b : Bool) → b ≡ true → (a || b) ≡ true
-  either true b e = refl
-  either false b e = e
-
   fits_part : (row : Row) → In row tree → is_prefix path row.path ≡ true → row_fits table path (under tree path) row ≡ true
   fits_part row there below =
       let all = list_all-In (row_fits table [] tree) row tree whole.fitting there in
@@ -81,7 +77,7 @@ module _ (table : SchemaTable) (tree : List Row) (whole : IsWhole table [] tree)
       (and_from (fits_path table row.path && is_prefix path row.path) (cell_fits table row.path row.cell && is_whole_above table part path row.path)
       (and_from (fits_path table row.path) (is_prefix path row.path) of_path below)
       (and_from (cell_fits table row.path row.cell) (is_whole_above table part path row.path) of_cell (above row wholes)))
-      (either (not (is_root path)) (not (is_in_message table row.path)) clear)
+      (or_right (not (is_root path)) (not (is_in_message table row.path)) clear)
 
   pub part_whole : (not (has_own_row table path) || is_some (cell tree path)) ≡ true → IsWhole table path (under tree path)
   part_whole own = record {

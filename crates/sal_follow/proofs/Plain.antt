@@ -1,5 +1,6 @@
 -- A value written for a frame has no floating-point number, and is not nested deeper than a reader accepts.
 use Rattle.std.proofs.Common.{◌≡◌, ℕ, ◌+◌, ◌≤◌, ℤ, pos, negsuc, max, Bool, true, false, ◌||◌, List, [], ◌∷◌, map, Option, Some, None, decimal, refl, arith, if◌then◌else◌}
+use Rattle.std.proofs.lemmas.Bool.{or_from}
 use Rattle.std.specs.Fmt.{signed_decimal}
 use Rattle.std.specs.List.{slice_get}
 use Rattle.std.specs.Option.{option_map_or}
@@ -32,14 +33,11 @@ Plain k d = (has_float d ≡ false) × (depth d ≤ k)
 abbrev PlainItems : ℕ → List Data → Type 0
 PlainItems k ds = (items_have_float (items_of ds) ≡ false) × (items_depth (items_of ds) ≤ k)
 
-neither : (a b : Bool) → a ≡ false → b ≡ false → (a || b) ≡ false
-neither a b p q = rw (p, q) refl
-
 greater : (a b k : ℕ) → a ≤ k → b ≤ k → max a b ≤ k
 greater a b k p q = omega arith
 
 plain_cons : (k : ℕ) (d : Data) (ds : List Data) → Plain k d → PlainItems k ds → PlainItems k (d ∷ ds)
-plain_cons k d ds p q = (neither (has_float d) (items_have_float (items_of ds)) p.0 q.0, greater (depth d) (items_depth (items_of ds)) k p.1 q.1)
+plain_cons k d ds p q = (or_from (has_float d) (items_have_float (items_of ds)) p.0 q.0, greater (depth d) (items_depth (items_of ds)) k p.1 q.1)
 
 plain_array : (k : ℕ) (ds : List Data) → PlainItems k ds → Plain (k + 1) (array (items_of ds))
 plain_array k ds p = (p.0, omega (arith, p.1))
@@ -112,7 +110,7 @@ module _ (table : SchemaTable) where
   plain_step here (Node n) = (refl, omega arith)
   plain_step None (Key values) = (refl, omega arith)
   plain_step (Some n) (Key values) = plain_array 1 (keys_json table (keys_of table n) values) (plain_keys (keys_of table n) values)
-  plain_step here (Item value) = let p = plain_value here value in (neither (has_float (value_json table here value)) false p.0 refl, omega (arith, p.1))
+  plain_step here (Item value) = let p = plain_value here value in (or_from (has_float (value_json table here value)) false p.0 refl, omega (arith, p.1))
 
   plain_steps : (here : Option ℕ) (path : List Step) → PlainItems 2 (steps_json table here path)
   plain_steps here [] = (refl, omega arith)
@@ -146,4 +144,4 @@ module _ (table : SchemaTable) where
       let o = plain_store f.oper in
       let a : Bool = has_float (store_json table f.config) in
       let b : Bool = has_float (store_json table f.oper) in
-      (neither a (b || false) c.0 (neither b false o.0 refl), omega (arith, c.1, o.1))
+      (or_from a (b || false) c.0 (or_from b false o.0 refl), omega (arith, c.1, o.1))

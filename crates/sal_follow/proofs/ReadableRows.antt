@@ -6,7 +6,7 @@ use Rattle.std.specs.FinMap.{is_sorted}
 use Rattle.std.specs.FinMap.Entries.{below_all}
 use Rattle.std.specs.Ordering.{is_lt, match_ordering}
 use Rattle.std.specs.declared.cmp.Ordering.TheVariants.{Less, Equal, Greater}
-use Rattle.std.proofs.lemmas.Bool.{and_parts, and_from}
+use Rattle.std.proofs.lemmas.Bool.{and_parts, and_from, or_right}
 use Rattle.std.proofs.lemmas.List.Elements.{All-head, All-tail}
 use Rattle.std.proofs.lemmas.List.Folds.{fold-map}
 use Rattle.serde_json.specs.View.{items_of}
@@ -131,10 +131,6 @@ module _ (table : SchemaTable) where
   own_row path Mark e = ap (λ b. b || is_at_leaf table (last_step path)) e
   own_row path (Leaf value) e = by (last_step path) e
     where
-      or_right : (a b : Bool) → b ≡ true → (a || b) ≡ true
-      or_right true b e = refl
-      or_right false b e = e
-
       by : (o : Option Step) → has_value table o value ≡ true → (has_mark table o || is_at_leaf table o) ≡ true
       by None e = cc
       by (Some (Node n)) e = or_right (has_mark table (Some (Node n))) (is_kind is_leaf table n) (and_parts (is_kind is_leaf table n) (is_of_node table n value) e).0

@@ -1,5 +1,6 @@
 -- The search for conflicts, step by step.
 use Rattle.std.proofs.Common.{◌≡◌, ℕ, zero, suc, ◌+◌, ◌-◌, ◌<◌, ◌≤◌, Bool, true, false, List, [], ◌∷◌, ◌++◌, ◌&&◌, ◌||◌, length, take, drop, get_or, None, Some, refl, ap, sym, ◌∙◌, cond, if◌then◌else◌, arith, reverse}
+use Rattle.std.proofs.lemmas.Bool.{or_parts}
 use Rattle.std.specs.Prelude.{is_some, not, find}
 use Rattle.std.specs.Option.{option_or, option_map}
 use Rattle.std.proofs.lemmas.List.{take_more, drop_more, get_or_default}
@@ -26,7 +27,6 @@ use Rattle.sal_graft.specs.Rows.{conflict_at, lost_depth}
 use Rattle.sal_graft.proofs.Setting.{is_set-last}
 use Rattle.sal_rows.proofs.Numbers.{numbers_over-push, find_part}
 use Rattle.sal_rows.proofs.Rising.{and_assoc}
-use Rattle.sal_rows.proofs.Untouched.{or_first, or_second}
 
 -- ---- operation by operation
 
@@ -50,8 +50,8 @@ reads_from-at opening commits spans ops i op h at =
 pub no-reads : (opening : Store → List Row) (commits : List (List Op)) (spans : List Span) (earlier ops : List Op) → has_reads ops ≡ false → reads_from opening commits spans earlier ops ≡ None
 no-reads opening commits spans earlier [] h = refl
 no-reads opening commits spans earlier (op ∷ ops) h =
-    ap (λ b. option_or (if b && not (is_covered earlier op.store op.path) then option_map (conflict_at (length earlier) op) (difference opening commits op.store spans op.path) else None) (reads_from opening commits spans (earlier ++ op ∷ []) ops)) (or_first (is_read op.act) (has_reads ops) h)
-    ∙ no-reads opening commits spans (earlier ++ op ∷ []) ops (or_second (is_read op.act) (has_reads ops) h)
+    ap (λ b. option_or (if b && not (is_covered earlier op.store op.path) then option_map (conflict_at (length earlier) op) (difference opening commits op.store spans op.path) else None) (reads_from opening commits spans (earlier ++ op ∷ []) ops)) (or_parts (is_read op.act) (has_reads ops) h).0
+    ∙ no-reads opening commits spans (earlier ++ op ∷ []) ops (or_parts (is_read op.act) (has_reads ops) h).1
 
 -- a read is not a write, so the walk over the writes skips it
 pub read-no_write : (opening : Store → List Row) (commits : List (List Op)) (rules : Rules) (base : Store → List Row) (spans : List Span) (earlier : List Op) (op : Op) → is_read op.act ≡ true

@@ -3,10 +3,10 @@ use Rattle.std.proofs.Common.{◌≡◌, ℕ, zero, suc, ◌==◌, ◌<◌, ◌�
 use Rattle.std.specs.Prelude.{Vec, IfSome}
 use Rattle.std.specs.List.{list_any, list_all}
 use Rattle.std.specs.declared.alloc.Global.{Global}
-use Rattle.std.proofs.lemmas.Bool.{cases_Bool, cases_lt}
+use Rattle.std.proofs.lemmas.Bool.{cases_Bool, cases_lt, and_parts}
 use Rattle.std.proofs.lemmas.Bool.Decides.{nat_tests}
 use Rattle.sal_module.specs.Imports.{reaches}
-use Rattle.sal_module.proofs.Rounds.{reaches-zero, reaches-suc, and-true}
+use Rattle.sal_module.proofs.Rounds.{reaches-zero, reaches-suc}
 use Rattle.sal_grouping.specs.Reach.{IsRanked, is_below}
 
 pub get_or_past : {X : Type 0} (xs : List X) (k : ℕ) (d : X) → length xs ≤ k → get_or xs k d ≡ d
@@ -19,14 +19,14 @@ get_or_past (x ∷ xs) (suc k) d h = get_or_past xs k d (omega arith)
 weaken : (r : ℕ → ℕ) (a b : ℕ) → a < b → (xs : List ℕ) → list_all (λ k. nat_le (r k) a) xs ≡ true → list_all (λ k. nat_lt (r k) b) xs ≡ true
 weaken r a b h [] all = refl
 weaken r a b h (x ∷ xs) all =
-    let (one, more) = and-true (nat_le (r x) a) (list_all (λ k. nat_le (r k) a) xs) all in
+    let (one, more) = and_parts (nat_le (r x) a) (list_all (λ k. nat_le (r k) a) xs) all in
     let here : nat_lt (r x) b ≡ true = grind (arith, nat_tests) in
     rw here (weaken r a b h xs more)
 
 none-of : (q p : ℕ → Bool) → ((k : ℕ) → q k ≡ true → p k ≡ false) → (xs : List ℕ) → list_all q xs ≡ true → list_any p xs ≡ false
 none-of q p each [] all = refl
 none-of q p each (x ∷ xs) all =
-    let (one, more) = and-true (q x) (list_all q xs) all in
+    let (one, more) = and_parts (q x) (list_all q xs) all in
     rw (each x one) (none-of q p each xs more)
 
 module _ (edges : List (List ℕ)) (ranks : List ℕ) (ranked : IsRanked edges ranks) (target : ℕ) where

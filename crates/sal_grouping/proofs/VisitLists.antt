@@ -1,5 +1,6 @@
 -- Blocks that are gone through, from one statement to the next.
-use Rattle.std.proofs.Common.{◌≡◌, ℕ, zero, suc, ◌+◌, ◌-◌, ◌<◌, ◌≤◌, List, [], ◌∷◌, ◌++◌, drop, Bool, true, false, not, get_or, Option, Some, None, unwrap_or, refl, sym, ap, ◌∙◌, arith, append_assoc, append-nil}
+use Rattle.std.proofs.Common.{◌≡◌, ℕ, zero, suc, ◌+◌, ◌-◌, ◌<◌, List, [], ◌∷◌, ◌++◌, drop, Bool, true, false, not, get_or, Option, Some, None, unwrap_or, refl, sym, ap, ◌∙◌, arith, append_assoc, append-nil}
+use Rattle.std.proofs.lemmas.Bool.{and_parts}
 use Rattle.std.specs.List.{flat_map, list_all, slice_get}
 use Rattle.sal_grouping.specs.declared.rows.Row.{Row}
 use Rattle.sal_grouping.specs.declared.nodes.Visit.{Visit}
@@ -8,7 +9,6 @@ use Rattle.sal_grouping.specs.Growth.{is_node, used_by, nodes_at, nodes_within}
 use Rattle.sal_grouping.specs.Plan.{is_bare, AreBare}
 use Rattle.sal_grouping.specs.Visits.{left_of, all_left, steps_at, steps_within, steps_of, all_steps}
 use Rattle.sal_grouping.proofs.IndexLists.{not-true}
-use Rattle.sal_module.proofs.Rounds.{and-true}
 
 -- ---- lists
 
@@ -26,7 +26,7 @@ drop-none (y ∷ xs) (suc i) e = drop-none xs i e
 none-map : (f : ℕ → List ℕ) (p : ℕ → Bool) → ((k : ℕ) → p k ≡ true → f k ≡ []) → (xs : List ℕ) → list_all p xs ≡ true → flat_map f xs ≡ []
 none-map f p each [] all = refl
 none-map f p each (x ∷ xs) all =
-    let (one, more) = and-true (p x) (list_all p xs) all in
+    let (one, more) = and_parts (p x) (list_all p xs) all in
     rw (each x one) (none-map f p each xs more)
 
 -- ---- the nodes that a statement adds
@@ -46,7 +46,7 @@ module _ (f : ℕ → List ℕ) (rows : List Row) (named : List (Option ℕ)) (k
 module _ (rows : List Row) (named : List (Option ℕ)) (bare : List Bool) (are : AreBare rows named bare) where
   bare-at : (f : ℕ → List ℕ) → ((g : ℕ) → get_or bare g false ≡ true → f g ≡ []) → (k : ℕ) → is_bare rows named bare k ≡ true → nodes_at f rows named k ≡ []
   bare-at f each k b =
-      let (no_node, used) = and-true (not (is_node (keyword_at rows k))) (list_all (λ g. get_or bare g false) (used_by named k)) b in
+      let (no_node, used) = and_parts (not (is_node (keyword_at rows k))) (list_all (λ g. get_or bare g false) (used_by named k)) b in
       rw (not-true (is_node (keyword_at rows k)) no_node) (none-map f (λ g. get_or bare g false) each (used_by named k) used)
 
   pub bare-none : (n g : ℕ) → get_or bare g false ≡ true → nodes_within n rows named g ≡ []

@@ -2,7 +2,7 @@
 use Rattle.std.proofs.Common.{◌≡◌, ℕ, zero, suc, Bool, true, false, ◌&&◌, List, [], ◌∷◌, ◌++◌, length, take, Option, None, Some, refl, ap, sym, ◌∙◌, subst, cond, arith, inl, inr, append-nil, append_assoc, if◌then◌else◌, nat_eq}
 use Rattle.std.specs.Prelude.{slice_get}
 use Rattle.std.specs.List.{cons_option, flat_map}
-use Rattle.std.proofs.lemmas.Bool.{eqb-true}
+use Rattle.std.proofs.lemmas.Bool.{eqb-true, and_parts}
 use Rattle.std.proofs.lemmas.Grind.{flat_map-append}
 use Rattle.std.proofs.lemmas.List.{take_all}
 use Rattle.std.proofs.lemmas.List.Elements.{filter_map-append}
@@ -51,10 +51,6 @@ nothing_brought client made asked e = by asked.call e
     by (notes.Subscribe note) e = refl
     by (notes.Offer note rows) e = cc
 
-only_first : (a b : Bool) → (a && b) ≡ true → a ≡ true
-only_first true b e = refl
-only_first false b e = cc
-
 balanced-more : (made : List Made) (asked : Asked) (client : ℕ) (before : List Note) → before ++ queue made client ≡ brought client made
     → (before ++ takes_by client made asked) ++ queue (make made asked) client ≡ brought client (make made asked)
 balanced-more made asked client before was =
@@ -70,7 +66,7 @@ balanced-more made asked client before was =
     by true e =
         append-nil (before ++ queue made client)
         ∙ sym (append-nil (before ++ queue made client))
-        ∙ ap (λ (ns : List Note). (before ++ queue made client) ++ ns) (sym (nothing_brought client made asked (only_first (takes asked.call) (nat_eq asked.client client) e)))
+        ∙ ap (λ (ns : List Note). (before ++ queue made client) ++ ns) (sym (nothing_brought client made asked (and_parts (takes asked.call) (nat_eq asked.client client) e).0))
     by false e =
         ap (λ (ns : List Note). ns ++ (queue made client ++ brings client asked.call (replies made asked.client asked.call) (subscribed_to made asked.call))) (append-nil before)
         ∙ sym (append_assoc before (queue made client) (brings client asked.call (replies made asked.client asked.call) (subscribed_to made asked.call)))

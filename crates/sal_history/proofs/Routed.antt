@@ -3,7 +3,7 @@ use Rattle.std.proofs.Common.{◌≡◌, ℕ, zero, suc, ◌+◌, ◌-◌, ◌<�
 use Rattle.std.specs.Prelude.{is_some, slice_get, unwrap_or}
 use Rattle.std.specs.List.{cons_option}
 use Rattle.std.specs.Option.{option_map, option_or}
-use Rattle.std.proofs.lemmas.Bool.{cases_lt, eq-eqb, eqb-true}
+use Rattle.std.proofs.lemmas.Bool.{cases_lt, eq-eqb, eqb-true, and_parts}
 use Rattle.std.proofs.lemmas.List.Elements.{filter_map-append}
 use Rattle.std.proofs.lemmas.List.Sums.{fold-append}
 use Rattle.std.proofs.lemmas.Option.{none-some, same_Some}
@@ -101,10 +101,6 @@ waits n test (r ∷ rs) w e =
           (suc later.0, omega (arith, number), later.2, later.3)
     ] refl e
 
-both : (a b : Bool) → (a && b) ≡ true → a ≡ true
-both true b e = refl
-both false b e = cc
-
 -- a client receives a request that goes to it
 handed_of : (made : List Made) (client : ℕ) (r : Request) → routes made client rpcs.NextCall ≡ rpc_replies.Handed r
     → (q : Requested) × (request_at (requests made) r.id ≡ Some q) × (q.owner ≡ client) × (q.rpc ≡ r.rpc) × (q.context ≡ r.context) × (q.input ≡ r.input)
@@ -122,7 +118,7 @@ handed_of made client r = found (slice_get (queue made client) 0) refl
         let number : r.id ≡ suc is.0 = omega (arith, place, own) in (
           w.1,
           ap (request_at (requests made)) number ∙ is.2,
-          eqb-true w.1.owner client (both (nat_eq w.1.owner client) (not (is_handed made w.0)) is.3),
+          eqb-true w.1.owner client (and_parts (nat_eq w.1.owner client) (not (is_handed made w.0)) is.3).0,
           ap (λ (z : Request). z.rpc) same,
           ap (λ (z : Request). z.context) same,
           ap (λ (z : Request). z.input) same,

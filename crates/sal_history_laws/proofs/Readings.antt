@@ -3,7 +3,7 @@ use Rattle.std.proofs.Common.{◌≡◌, ℕ, zero, suc, ◌≤◌, Bool, true, 
 use Rattle.std.specs.Prelude.{is_some, slice_get}
 use Rattle.std.specs.List.{list_any}
 use Rattle.std.specs.Option.{option_or}
-use Rattle.std.proofs.lemmas.Bool.{and_parts}
+use Rattle.std.proofs.lemmas.Bool.{and_parts, or_right}
 use Rattle.std.proofs.lemmas.List.{length-take, take-take}
 use Rattle.std.proofs.lemmas.List.Folds.{list_any-append}
 use Rattle.std.proofs.lemmas.Option.{same_Some, slice_get_within}
@@ -176,15 +176,11 @@ recorded_known tree t s path ops =
     reads : Op → Bool
     reads op = (same_store op.store s && is_read op.act) && is_prefix op.path path
 
-    either : (a b : Bool) → b ≡ true → (a || b) ≡ true
-    either true b e = refl
-    either false b e = e
-
     own : ((same_store s s && true) && is_prefix path path) ≡ true
     own = (λ k. (same_store-itself s k && true) && front_itself path k)
 
     was : was_read (ops ++ read_of s path ∷ []) s path ≡ true
-    was = list_any-append reads ops (read_of s path ∷ []) ∙ either (list_any reads ops) (reads (read_of s path) || false) (ap (λ b. b || false) own)
+    was = list_any-append reads ops (read_of s path ∷ []) ∙ or_right (list_any reads ops) (reads (read_of s path) || false) (ap (λ b. b || false) own)
 
     now_known : is_known (ops ++ read_of s path ∷ []) s path ≡ true
-    now_known = either (is_covered (ops ++ read_of s path ∷ []) s path) (was_read (ops ++ read_of s path ∷ []) s path) was
+    now_known = or_right (is_covered (ops ++ read_of s path ∷ []) s path) (was_read (ops ++ read_of s path ∷ []) s path) was

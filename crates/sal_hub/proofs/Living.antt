@@ -1,5 +1,6 @@
 -- Which domains are live, as calls on mounts are made.
-use Rattle.std.proofs.Common.{◌≡◌, ◌⊎◌, ℕ, ◌<◌, Bool, true, false, not, ◌&&◌, ◌||◌, List, [], ◌∷◌, ◌++◌, length, Option, None, refl, ap, sym, ◌∙◌, arith, if◌then◌else◌, inl, inr, nat_eq}
+use Rattle.std.proofs.Common.{◌≡◌, ℕ, ◌<◌, Bool, true, false, not, ◌&&◌, ◌||◌, List, [], ◌∷◌, ◌++◌, length, Option, None, refl, ap, sym, ◌∙◌, arith, if◌then◌else◌, inl, inr, nat_eq}
+use Rattle.std.proofs.lemmas.Bool.{or_cases, and_parts}
 use Rattle.std.specs.List.{fold, list_any}
 use Rattle.std.specs.Option.{option_map, option_or}
 use Rattle.std.proofs.lemmas.Bool.Decides.{nat_tests}
@@ -20,10 +21,6 @@ use Rattle.sal_history.specs.Services.{mounting}
 
 abbrev AreDevices : ℕ → List Made → Type 0
 AreDevices devices made = (n : ℕ) → was_mounted made n ≡ true → n < devices
-
-or_cases : (a b : Bool) → (a || b) ≡ true → (a ≡ true) ⊎ (b ≡ true)
-or_cases true b e = inl refl
-or_cases false b e = inr e
 
 pub is_device_low : (devices n : ℕ) → is_device devices n ≡ true → n < devices
 is_device_low devices n is = grind (arith, nat_tests)
@@ -61,10 +58,6 @@ all_devices : (devices : ℕ) (made : List Made) (calls : List MountCall) → Ar
 all_devices devices made [] was = was
 all_devices devices made (call ∷ calls) was = all_devices devices (make devices made call) calls (next_devices devices made was call)
 
-and_first : (a b : Bool) → (a && b) ≡ true → a ≡ true
-and_first true b e = refl
-and_first false b e = cc
-
 own_number : (n : ℕ) → nat_eq n 0 ≡ true → n ≡ 0
 own_number n e = grind (arith, nat_tests)
 
@@ -74,7 +67,7 @@ live_there world some answered n live =
     let made : List Made = made_of (length world) (mounting answered) in
     elim (or_cases (nat_eq n 0) (was_mounted made n && not (is_unmounted made n)) live) [
       | inl own ↦ omega (arith, own_number n own, some)
-      | inr up ↦ all_devices (length world) [] (mounting answered) (λ k none. cc) n (and_first (was_mounted made n) (not (is_unmounted made n)) up)
+      | inr up ↦ all_devices (length world) [] (mounting answered) (λ k none. cc) n (and_parts (was_mounted made n) (not (is_unmounted made n)) up).0
     ]
 
 -- ---- one call more

@@ -1,5 +1,6 @@
 -- A listener that is taken from or removed: what is kept stays the log's, and the answer is the log's.
-use Rattle.std.proofs.Common.{◌≡◌, ℕ, ◌-◌, ◌<◌, Bool, true, false, length, get_or, nat_eq, List, Option, Some, ap, sym, ◌∙◌, subst, arith}
+use Rattle.std.proofs.Common.{◌≡◌, ℕ, ◌-◌, ◌<◌, true, false, length, get_or, nat_eq, List, Option, Some, ap, sym, ◌∙◌, subst, arith}
+use Rattle.std.proofs.lemmas.Bool.{and_parts}
 use Rattle.std.specs.Prelude.{slice_get, ◌&&◌}
 use Rattle.std.specs.Option.{option_map_or}
 use Rattle.std.proofs.lemmas.Option.{get_or_from_slice_get}
@@ -29,12 +30,8 @@ use Rattle.sal_hub.proofs.Telling.{gone_reply, refused_listeners, told_reply, un
 pub same_at : {X : Type 0} (xs : List X) (i : ℕ) (x y : X) → x ≡ get_or xs i x → slice_get xs i ≡ Some y → x ≡ y
 same_at xs i x y read at = read ∙ get_or_from_slice_get xs i y x at
 
-right_of : (a b : Bool) → (a && b) ≡ true → b ≡ true
-right_of true b e = e
-right_of false b e = cc
-
 live_of : (ls : List Listener) (client i : ℕ) (l : Listener) → slice_get ls i ≡ Some l → has_in ls client i ≡ true → l.live ≡ true
-live_of ls client i l at has = right_of (nat_eq l.client client) l.live (ap (λ (o : Option Listener). option_map_or (λ (x : Listener). nat_eq x.client client && x.live) o false) (sym at) ∙ has)
+live_of ls client i l at has = (and_parts (nat_eq l.client client) l.live (ap (λ (o : Option Listener). option_map_or (λ (x : Listener). nat_eq x.client client && x.live) o false) (sym at) ∙ has)).1
 
 -- ---- its domain, and the commits there that it has not taken
 

@@ -1,9 +1,9 @@
 -- The name that is written for an identity names it.
-use Rattle.std.proofs.Common.{◌≡◌, ℕ, zero, suc, ◌+◌, ◌<◌, ◌==◌, nat_lt, Bool, true, false, if◌then◌else◌, List, [], ◌∷◌, ◌++◌, length, take, drop, Option, Some, None, IsTrue, refl, ap, sym, subst, ◌∙◌, inl, inr, arith}
-use Rattle.std.specs.Prelude.{◌||◌, Contains, option_map}
+use Rattle.std.proofs.Common.{◌≡◌, ℕ, zero, suc, ◌+◌, ◌<◌, ◌==◌, nat_lt, true, false, if◌then◌else◌, List, [], ◌∷◌, ◌++◌, length, take, drop, Option, Some, None, IsTrue, refl, ap, sym, subst, ◌∙◌, inl, inr, arith}
+use Rattle.std.specs.Prelude.{Contains, option_map}
 use Rattle.std.specs.Option.{option_map_or, option_and_then}
 use Rattle.std.specs.List.{list_all, list_any, slice_get, position_or_len, before_first, after_first}
-use Rattle.std.proofs.lemmas.Bool.{cases_Bool, and_parts, or_right, or_from}
+use Rattle.std.proofs.lemmas.Bool.{cases_Bool, and_parts, or_right, or_from, or_parts}
 use Rattle.std.proofs.lemmas.Bool.Decides.{nat_tests}
 use Rattle.std.proofs.lemmas.List.Sorted.{IsPermutation-refl}
 use Rattle.sal_schema.specs.declared.names.Named.{Named}
@@ -40,10 +40,6 @@ no_colon_rest (c ∷ t) e = let (here, rest) = and_parts (goes_on c) (list_all g
 pub no_colon : (t : List ℕ) → IsTrue (is_identifier t) → list_any is_colon t ≡ false
 no_colon [] e = refl
 no_colon (c ∷ t) e = or_from _ _ (starts_goes_on c (and_first (starts_identifier c) (list_all goes_on t) e)) (no_colon_rest t (and_second (starts_identifier c) (list_all goes_on t) e))
-
-or_parts : (a b : Bool) → (a || b) ≡ false → (a ≡ false) × (b ≡ false)
-or_parts true b e = cc
-or_parts false b e = (refl, e)
 
 module _ (b : List ℕ) where
   pub colon-at : (a : List ℕ) → list_any is_colon a ≡ false → position_or_len is_colon (a ++ 58 ∷ b) ≡ length a

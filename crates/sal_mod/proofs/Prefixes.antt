@@ -1,5 +1,6 @@
 -- Tests on the prefixes of a path, and the operations at prefixes of it.
 use Rattle.std.proofs.Common.{◌≡◌, ℕ, suc, zero, ◌+◌, ◌<◌, ◌≤◌, Bool, true, false, List, [], ◌∷◌, ◌++◌, ◌&&◌, ◌||◌, length, take, drop, Option, Some, None, refl, ap, ◌∙◌, if◌then◌else◌, arith}
+use Rattle.std.proofs.lemmas.Bool.{or_parts}
 use Rattle.std.proofs.lemmas.Bool.Decides.{nat_tests}
 use lib.Dec.{ltb}
 use Rattle.std.specs.List.{list_any}
@@ -16,7 +17,6 @@ use Rattle.sal_rows.specs.declared.op.Act.{Act}
 use Rattle.sal_rows.specs.declared.op.Op.{Op}
 use Rattle.sal_rows.specs.Apply.{same_store}
 use Rattle.sal_rows.proofs.Rising.{and_assoc}
-use Rattle.sal_rows.proofs.Untouched.{or_first, or_second}
 use Rattle.sal_mod.specs.declared.firsts.Firsts.{Firsts}
 use Rattle.sal_mod.specs.Covers.{stands_over, stands_at, first_at}
 use Rattle.sal_mod.specs.Firsts.{AreFirstBy, places_in}
@@ -111,7 +111,7 @@ over-paired t s (op ∷ ops) p = λ i. and_assoc (same_store op.store s) (t op.a
 pub none-over : (t : Act → Bool) (s : Store) (ops : List Op) (p : List Step) → list_any (λ op. t op.act) ops ≡ false → list_any (stands_over t s p) ops ≡ false
 none-over t s [] p h = refl
 none-over t s (op ∷ ops) p h = λ i.
-    and_false (same_store op.store s) (t op.act) (is_prefix op.path p) (or_first (t op.act) (list_any (λ op. t op.act) ops) h) i || none-over t s ops p (or_second (t op.act) (list_any (λ op. t op.act) ops) h) i
+    and_false (same_store op.store s) (t op.act) (is_prefix op.path p) (or_parts (t op.act) (list_any (λ op. t op.act) ops) h).0 i || none-over t s ops p (or_parts (t op.act) (list_any (λ op. t op.act) ops) h).1 i
 
 -- from one depth to the next
 pub any_prefix-next : (f : List Step → Bool) (p : List Step) (d : ℕ) → d < length p → f (take d p) ≡ false → any_prefix (λ q. f (take d p ++ q)) (drop d p) ≡ any_prefix (λ q. f (take (d + 1) p ++ q)) (drop (d + 1) p)

@@ -1,12 +1,11 @@
 -- Statements in the order of the text: where a statement with a given offset can be.
 use Rattle.std.proofs.Common.{◌≡◌, ℕ, zero, suc, ◌+◌, ◌-◌, ◌<◌, ◌≤◌, Bool, true, false, ◌&&◌, ◌/◌, ◌==◌, nat_lt, nat_le, List, [], ◌∷◌, ◌++◌, length, take, drop, get_or, Option, Some, None, is_some, if◌then◌else◌, refl, sym, ap, ◌∙◌, inl, inr, arith, length-drop}
-use Rattle.std.proofs.lemmas.Bool.{cases_Bool}
+use Rattle.std.proofs.lemmas.Bool.{cases_Bool, and_parts}
 use Rattle.std.proofs.lemmas.Bool.Decides.{nat_tests}
 use Rattle.std.proofs.lemmas.List.{drop_more, take-append-drop}
 use Rattle.sal_stmt.specs.declared.stmt.Stmt.{Stmt, out-Stmt}
 use Rattle.sal_module.specs.Statements.{subs_of}
 use Rattle.sal_module.specs.Places.{find_first, find_at, start_or, half_of, all_before, is_in_order}
-use Rattle.sal_module.proofs.Rounds.{and-true}
 
 -- ---- one turn
 
@@ -48,13 +47,13 @@ module _ (test : ℕ → Stmt → Bool) (within : (high : ℕ) (stmt : Stmt) →
   start-within : (high : ℕ) (stmts : List Stmt) → all_before test high stmts ≡ true → start_or high stmts ≤ high
   start-within high [] h = omega arith
   start-within high (stmt ∷ stmts) h =
-      let (one, more) = and-true (test (start_or high stmts) stmt) (all_before test high stmts) h in
+      let (one, more) = and_parts (test (start_or high stmts) stmt) (all_before test high stmts) h in
       omega (arith, within (start_or high stmts) stmt one, start-within high stmts more)
 
 pub order-within : (levels high : ℕ) (stmt : Stmt) → is_in_order levels high stmt ≡ true → (out-Stmt stmt).at < high
 order-within zero high stmt h = grind (arith, nat_tests, is_in_order-zero high stmt)
 order-within (suc levels) high stmt h =
-    let (here, below) = and-true (nat_lt (out-Stmt stmt).at (start_or high (subs_of stmt))) (all_before (is_in_order levels) high (subs_of stmt)) (sym (is_in_order-suc levels high stmt) ∙ h) in
+    let (here, below) = and_parts (nat_lt (out-Stmt stmt).at (start_or high (subs_of stmt))) (all_before (is_in_order levels) high (subs_of stmt)) (sym (is_in_order-suc levels high stmt) ∙ h) in
     let end = start-within (is_in_order levels) (order-within levels) high (subs_of stmt) below in
     grind (arith, nat_tests)
 
@@ -63,7 +62,7 @@ order-within (suc levels) high stmt h =
 pub all_before-drop : (test : ℕ → Stmt → Bool) (high : ℕ) (stmts : List Stmt) (k : ℕ) → all_before test high stmts ≡ true → all_before test high (drop k stmts) ≡ true
 all_before-drop test high stmts zero h = h
 all_before-drop test high [] (suc k) h = refl
-all_before-drop test high (stmt ∷ stmts) (suc k) h = all_before-drop test high stmts k (and-true (test (start_or high stmts) stmt) (all_before test high stmts) h).1
+all_before-drop test high (stmt ∷ stmts) (suc k) h = all_before-drop test high stmts k (and_parts (test (start_or high stmts) stmt) (all_before test high stmts) h).1
 
 start-take : (high : ℕ) (stmts : List Stmt) (k : ℕ) → start_or (start_or high (drop k stmts)) (take k stmts) ≡ start_or high stmts
 start-take high stmts zero = refl
@@ -74,7 +73,7 @@ pub all_before-take : (test : ℕ → Stmt → Bool) (high : ℕ) (stmts : List 
 all_before-take test high stmts zero h = refl
 all_before-take test high [] (suc k) h = refl
 all_before-take test high (stmt ∷ stmts) (suc k) h =
-    let (one, more) = and-true (test (start_or high stmts) stmt) (all_before test high stmts) h in
+    let (one, more) = and_parts (test (start_or high stmts) stmt) (all_before test high stmts) h in
     rw (start-take high stmts k, one) (all_before-take test high stmts k more)
 
 pub find_first-append : {X Y : Type 0} (f : X → Option Y) (xs ys : List X) → find_first f (xs ++ ys) ≡ (if is_some (find_first f xs) then find_first f xs else find_first f ys)
@@ -86,14 +85,14 @@ find_first-append f (x ∷ xs) ys = elim (cases_Bool (is_some (f x))) [ inl e �
 and-parts : (levels high : ℕ) (stmt : Stmt) → is_in_order (suc levels) high stmt ≡ true
     → ((out-Stmt stmt).at < start_or high (subs_of stmt)) × (all_before (is_in_order levels) high (subs_of stmt) ≡ true)
 and-parts levels high stmt h =
-    let parts = and-true (nat_lt (out-Stmt stmt).at (start_or high (subs_of stmt))) (all_before (is_in_order levels) high (subs_of stmt)) (sym (is_in_order-suc levels high stmt) ∙ h) in
+    let parts = and_parts (nat_lt (out-Stmt stmt).at (start_or high (subs_of stmt))) (all_before (is_in_order levels) high (subs_of stmt)) (sym (is_in_order-suc levels high stmt) ∙ h) in
     (grind (arith, nat_tests, parts.0), parts.1)
 
 module _ (levels at : ℕ) (outside : (high : ℕ) (stmt : Stmt) → is_in_order levels high stmt ≡ true → at < (out-Stmt stmt).at → find_at levels at stmt ≡ None) where
   none-below : (high : ℕ) (stmts : List Stmt) → all_before (is_in_order levels) high stmts ≡ true → at < start_or high stmts → find_first (find_at levels at) stmts ≡ None
   none-below high [] h out = refl
   none-below high (stmt ∷ stmts) h out =
-      let (one, more) = and-true (is_in_order levels (start_or high stmts) stmt) (all_before (is_in_order levels) high stmts) h in
+      let (one, more) = and_parts (is_in_order levels (start_or high stmts) stmt) (all_before (is_in_order levels) high stmts) h in
       let next = order-within levels (start_or high stmts) stmt one in
       rw (outside (start_or high stmts) stmt one out) (none-below high stmts more (omega arith))
 
@@ -108,7 +107,7 @@ module _ (levels at : ℕ) (outside : (high : ℕ) (stmt : Stmt) → is_in_order
   none-above : (high : ℕ) (stmts : List Stmt) → all_before (is_in_order levels) high stmts ≡ true → high ≤ at → find_first (find_at levels at) stmts ≡ None
   none-above high [] h out = refl
   none-above high (stmt ∷ stmts) h out =
-      let (one, more) = and-true (is_in_order levels (start_or high stmts) stmt) (all_before (is_in_order levels) high stmts) h in
+      let (one, more) = and_parts (is_in_order levels (start_or high stmts) stmt) (all_before (is_in_order levels) high stmts) h in
       let end = start-within (is_in_order levels) (order-within levels) high stmts more in
       rw (outside (start_or high stmts) stmt one (omega arith)) (none-above high stmts more out)
 
@@ -175,9 +174,9 @@ find_first-one f (stmt ∷ next ∷ stmts) d some one = absurd (omega arith)
 
 pub order-one : (test : ℕ → Stmt → Bool) (high : ℕ) (stmts : List Stmt) (d : Stmt) → 0 < length stmts → length stmts ≤ 1 → all_before test high stmts ≡ true → test high (get_or stmts 0 d) ≡ true
 order-one test high [] d some one h = absurd (omega arith)
-order-one test high (stmt ∷ []) d some one h = (and-true (test high stmt) true h).0
+order-one test high (stmt ∷ []) d some one h = (and_parts (test high stmt) true h).0
 order-one test high (stmt ∷ next ∷ stmts) d some one h = absurd (omega arith)
 
 pub order-below : (levels high : ℕ) (stmt : Stmt) → 0 < levels → is_in_order levels high stmt ≡ true → all_before (is_in_order (levels - 1)) high (subs_of stmt) ≡ true
 order-below levels high stmt some h =
-    (and-true (nat_lt (out-Stmt stmt).at (start_or high (subs_of stmt))) (all_before (is_in_order (levels - 1)) high (subs_of stmt)) (sym (is_in_order-more levels high stmt some) ∙ h)).1
+    (and_parts (nat_lt (out-Stmt stmt).at (start_or high (subs_of stmt))) (all_before (is_in_order (levels - 1)) high (subs_of stmt)) (sym (is_in_order-more levels high stmt some) ∙ h)).1

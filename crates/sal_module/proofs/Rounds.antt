@@ -1,5 +1,6 @@
 -- Reaching by names, one round after another.
-use Rattle.std.proofs.Common.{◌≡◌, ℕ, zero, suc, ◌+◌, ◌-◌, ◌≤◌, ◌==◌, Bool, true, false, ◌&&◌, ◌||◌, List, [], ◌∷◌, map, get_or, refl, sym, ap, ◌∙◌, arith}
+use Rattle.std.proofs.Common.{◌≡◌, ℕ, zero, suc, ◌+◌, ◌-◌, ◌≤◌, ◌==◌, Bool, true, false, ◌||◌, List, [], ◌∷◌, map, get_or, refl, sym, ap, ◌∙◌, arith}
+use Rattle.std.proofs.lemmas.Bool.{and_parts}
 use Rattle.std.specs.Prelude.{Vec}
 use lib.Pointwise.{pointwise}
 use mathlib.Core.Bool.{beq}
@@ -76,10 +77,6 @@ stable-until edges n target last same h = let there : n + (last - n) ≡ last = 
 
 -- ---- marks that are the same
 
-pub and-true : (a b : Bool) → (a && b) ≡ true → (a ≡ true) × (b ≡ true)
-and-true true b h = (refl, h)
-and-true false b h = absurd (let no : false ≡ true = h in cc)
-
 beq-same : (x y : Bool) → beq x y ≡ true → x ≡ y
 beq-same true true h = refl
 beq-same false false h = refl
@@ -91,7 +88,7 @@ marks-same [] [] h = refl
 marks-same [] (y ∷ b) h = absurd (let no : false ≡ true = h in cc)
 marks-same (x ∷ a) [] h = absurd (let no : false ≡ true = h in cc)
 marks-same (x ∷ a) (y ∷ b) h =
-    let (one, more) = and-true (beq x y) (pointwise beq a b) h in
+    let (one, more) = and_parts (beq x y) (pointwise beq a b) h in
     let first = beq-same x y one in
     let rest = marks-same a b more in
     λ i. first i ∷ rest i

@@ -4,25 +4,17 @@ use Rattle.std.specs.Prelude.{if◌then◌else◌, Vec}
 use Rattle.std.specs.declared.alloc.Global.{Global}
 use Rattle.std.proofs.Math.ListN.{set}
 use Rattle.std.specs.List.{list_all, flat_map}
-use Rattle.std.proofs.lemmas.Bool.{cases_Bool, cases_lt}
+use Rattle.std.proofs.lemmas.Bool.{cases_Bool, cases_lt, and_parts}
 use Rattle.std.proofs.lemmas.Bool.Decides.{nat_tests}
 use Rattle.sal_module_table.specs.Orders.{rows, rank_of, is_lower, IsOrdered}
 use Rattle.sal_module_table.specs.Identities.{once, joined, derived, derived_from}
-
-pub both-first : (a b : Bool) → (a && b) ≡ true → a ≡ true
-both-first true b h = refl
-both-first false b h = h
-
-pub both-second : (a b : Bool) → (a && b) ≡ true → b ≡ true
-both-second true b h = h
-both-second false b h = cc
 
 flat-same : (test : ℕ → Bool) (f g : ℕ → List ℕ) (bases : List ℕ) → list_all test bases ≡ true → ((b : ℕ) → test b ≡ true → f b ≡ g b)
     → flat_map (λ b. b ∷ f b) bases ≡ flat_map (λ b. b ∷ g b) bases
 flat-same test f g [] all agree = refl
 flat-same test f g (b ∷ bases) all agree =
-    let here : f b ≡ g b = agree b (both-first (test b) (list_all test bases) all) in
-    let rest = flat-same test f g bases (both-second (test b) (list_all test bases) all) agree in
+    let here : f b ≡ g b = agree b (and_parts (test b) (list_all test bases) all).0 in
+    let rest = flat-same test f g bases (and_parts (test b) (list_all test bases) all).1 agree in
     ap (λ row. (b ∷ row) ++ flat_map (λ c. c ∷ f c) bases) here ∙ ap (λ more. (b ∷ g b) ++ more) rest
 
 pub joined-same : (test : ℕ → Bool) (f g : ℕ → List ℕ) (bases : List ℕ) → list_all test bases ≡ true → ((b : ℕ) → test b ≡ true → f b ≡ g b) → joined f bases ≡ joined g bases
@@ -51,22 +43,22 @@ derived-some edges (suc n) i h = let under : suc n - 1 ≡ n = omega arith in rw
 
 module _ (edges : List (List ℕ)) (ranks order : List ℕ) (good : IsOrdered edges ranks order) where
   placed : (i : ℕ) → i < length edges → (nat_lt (rank_of ranks i) (length edges) && (get_or order (rank_of ranks i) (length edges) == i)) ≡ true
-  placed i h = both-first _ (list_all (is_lower ranks (length edges) i) (get_or edges i [])) (good.each i h)
+  placed i h = (and_parts _ (list_all (is_lower ranks (length edges) i) (get_or edges i [])) (good.each i h)).0
 
   pub low : (i : ℕ) → i < length edges → rank_of ranks i < length edges
-  low i h = less (rank_of ranks i) (length edges) (both-first (nat_lt (rank_of ranks i) (length edges)) _ (placed i h))
+  low i h = less (rank_of ranks i) (length edges) (and_parts (nat_lt (rank_of ranks i) (length edges)) _ (placed i h)).0
 
   pub stands : (i : ℕ) → i < length edges → get_or order (rank_of ranks i) (length edges) ≡ i
-  stands i h = equal (get_or order (rank_of ranks i) (length edges)) i (both-second (nat_lt (rank_of ranks i) (length edges)) _ (placed i h))
+  stands i h = equal (get_or order (rank_of ranks i) (length edges)) i (and_parts (nat_lt (rank_of ranks i) (length edges)) _ (placed i h)).1
 
   pub named : (i : ℕ) → i < length edges → list_all (is_lower ranks (length edges) i) (get_or edges i []) ≡ true
-  named i h = both-second (nat_lt (rank_of ranks i) (length edges) && (get_or order (rank_of ranks i) (length edges) == i)) _ (good.each i h)
+  named i h = (and_parts (nat_lt (rank_of ranks i) (length edges) && (get_or order (rank_of ranks i) (length edges) == i)) _ (good.each i h)).1
 
   pub lower-inside : (i k : ℕ) → is_lower ranks (length edges) i k ≡ true → k < length edges
-  lower-inside i k e = less k (length edges) (both-first (nat_lt k (length edges)) _ e)
+  lower-inside i k e = less k (length edges) (and_parts (nat_lt k (length edges)) _ e).0
 
   pub lower-rank : (i k : ℕ) → is_lower ranks (length edges) i k ≡ true → rank_of ranks k < rank_of ranks i
-  lower-rank i k e = less (rank_of ranks k) (rank_of ranks i) (both-second (nat_lt k (length edges)) _ e)
+  lower-rank i k e = less (rank_of ranks k) (rank_of ranks i) (and_parts (nat_lt k (length edges)) _ e).1
 
   -- as many steps as its rank and one more are enough
   enough : (n m i : ℕ) → i < length edges → rank_of ranks i < n → rank_of ranks i < m → derived n edges i ≡ derived m edges i

@@ -3,11 +3,11 @@ use Rattle.std.proofs.Common.{◌≡◌, ◌≢◌, ℕ, zero, suc, ◌+◌, ◌
 use Rattle.std.proofs.Math.ListN.{set}
 use Rattle.std.specs.Prelude.{if◌then◌else◌}
 use Rattle.std.specs.List.{list_all}
-use Rattle.std.proofs.lemmas.Bool.{cases_Bool}
+use Rattle.std.proofs.lemmas.Bool.{cases_Bool, and_parts}
 use Rattle.sal_restrict.specs.declared.yang_type.YangType.{YangType}
 use Rattle.sal_module_table.specs.Orders.{rank_of, IsOrdered}
 use Rattle.sal_module_table.specs.Filled.{empty, type_at, filled, filled_at, node_type, type_of_node}
-use Rattle.sal_module_table.proofs.Derivations.{both-first, both-second, equal, unequal}
+use Rattle.sal_module_table.proofs.Derivations.{equal, unequal}
 use Rattle.sal_module_table.proofs.Ranked.{values-more}
 
 pub type-zero : (own : List YangType) (edges : List (List ℕ)) (k : ℕ) → node_type own edges 0 k ≡ empty
@@ -25,8 +25,8 @@ type-some own edges (suc n) k h = let under : suc n - 1 ≡ n = omega arith in r
 map-same : {A : Type 0} (test : ℕ → Bool) (f g : ℕ → A) (xs : List ℕ) → list_all test xs ≡ true → ((b : ℕ) → test b ≡ true → f b ≡ g b) → map f xs ≡ map g xs
 map-same test f g [] all agree = refl
 map-same test f g (x ∷ xs) all agree =
-    let here = agree x (both-first (test x) (list_all test xs) all) in
-    let rest = map-same test f g xs (both-second (test x) (list_all test xs) all) agree in
+    let here = agree x (and_parts (test x) (list_all test xs) all).0 in
+    let rest = map-same test f g xs (and_parts (test x) (list_all test xs) all).1 agree in
     ap (λ y. y ∷ map f xs) here ∙ ap (λ ys. g x ∷ ys) rest
 
 alike : (own : List YangType) (edges : List (List ℕ)) (test : ℕ → Bool) (f g : ℕ → YangType) (i : ℕ) → list_all test (get_or edges i []) ≡ true → ((b : ℕ) → test b ≡ true → f b ≡ g b)

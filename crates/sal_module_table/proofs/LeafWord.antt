@@ -1,20 +1,9 @@
--- Equal texts; the keywords of leafs and types.
-use Rattle.std.proofs.Common.{◌≡◌, ℕ, List, [], ◌∷◌, Some, Bool, true, false, not, nat_eq, is_some, ◌&&◌, ◌||◌, codes, refl, sym, ap, ◌∙◌, inl, inr, arith}
+-- The keywords of leafs and types.
+use Rattle.std.proofs.Common.{◌≡◌, ℕ, List, Some, Bool, true, not, is_some, ◌&&◌, ◌||◌, codes, refl, sym, ap, ◌∙◌, inl, inr}
 use Rattle.std.proofs.lemmas.Bool.{cases_Bool}
-use Rattle.std.proofs.lemmas.Bool.Decides.{nat_tests}
 use Rattle.sal_module.specs.declared.keyword.Keyword.TheVariants.{Leaf, Extension}
 use Rattle.sal_module.specs.Keywords.{same, words, keyword_of, word_of}
-
-pub same-text : (a b : List ℕ) → same a b ≡ true → a ≡ b
-same-text [] [] e = refl
-same-text [] (y ∷ b) e = cc
-same-text (x ∷ a) [] e = cc
-same-text (x ∷ a) (y ∷ b) e = elim (cases_Bool (nat_eq x y)) [
-  | inl t ↦
-      let is : x ≡ y = grind (arith, nat_tests) in
-      let rest = rw t at e in λ i. is i ∷ same-text a b rest i
-  | inr f ↦ let no = rw f at e in absurd (let wrong : false ≡ true = no in cc)
-]
+use Rattle.sal_module.proofs.Initials.{same-text}
 
 leaf-is : Some Leaf ≡ keyword_of (codes "leaf")
 unfolding words keyword_of

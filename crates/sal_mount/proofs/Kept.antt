@@ -1,5 +1,6 @@
 -- A register stays that of the calls when one more is made.
 use Rattle.std.proofs.Common.{◌≡◌, ℕ, Bool, true, false, not, ◌&&◌, ◌||◌, List, [], ◌∷◌, ◌++◌, Option, Some, None, refl, ap, sym, ◌∙◌, subst, cond, arith, append-nil, if◌then◌else◌, nat_eq, ◌⊎◌, inl, inr}
+use Rattle.std.proofs.lemmas.Bool.{and_parts, or_left, or_parts}
 use Rattle.std.specs.List.{cons_option, filter, filter_map, list_any, slice_get}
 use Rattle.std.specs.Option.{IfSome, is_some, option_map, option_or, unwrap_or}
 use Rattle.std.proofs.lemmas.Bool.Decides.{nat_tests}
@@ -113,10 +114,6 @@ module _ (old new : Register) (k : ℕ) (sets : (d : ℕ) → state_at new.state
 
 -- ---- a device is mounted
 
-and-first : (a b : Bool) → (a && b) ≡ true → a ≡ true
-and-first true b e = refl
-and-first false b e = cc
-
 or-true : (b : Bool) → (b || true) ≡ true
 or-true true = refl
 or-true false = refl
@@ -142,14 +139,6 @@ up_state false true true h = let e : true ≡ false = h refl in cc
 up_state false true false h = refl
 up_state false false true h = refl
 up_state false false false h = refl
-
-or-first : (a b : Bool) → a ≡ true → (a || b) ≡ true
-or-first true b e = refl
-or-first false b e = cc
-
-or-none : (a b : Bool) → (a || b) ≡ false → a ≡ false
-or-none true b e = cc
-or-none false b e = refl
 
 own_number : (k : ℕ) → nat_eq k k ≡ true
 own_number k = grind (arith, nat_tests)
@@ -188,7 +177,7 @@ up_named t k p o made more was named = elim (path_eq t p) as (λ b. IfSome (if b
   where
     others : (o : Option ℕ) → IfSome o (λ d. was_mounted made d ≡ true) → IfSome o (λ d. was_mounted more d ≡ true)
     others None h = tt
-    others (Some d) h = was d ∙ or-first (was_mounted made d) (nat_eq k d) h
+    others (Some d) h = was d ∙ or_left (was_mounted made d) (nat_eq k d) h
 
 pub up : (old new : Register) (t : List Step) (k : ℕ) → ((d : ℕ) → state_at new.states d ≡ (if nat_eq k d then Some true else state_at old.states d)) → ((p : List Step) → last_at new.places p ≡ (if path_eq t p then Some k else last_at old.places p))
     → (made : List Made) → was_mounted made k ≡ false → live_at old t ≡ None → IsKept made old → IsKept (made ++ record { call = Mount t k; reply = Accepted } ∷ []) new
@@ -204,7 +193,7 @@ up old new t k sets puts made unused free kept =
       states = λ d. sets d ∙ ap (λ s. if nat_eq k d then Some true else s) (kept.states d) ∙ up_state (was_mounted made d) (is_unmounted made d) (nat_eq k d) (own d) ∙ (λ i. state_of (sym (was d) i) (sym (gone d) i));
       standing_at = λ p. (λ i. filter_map (stands_at (λ d. gone d i) p) (more i)) ∙ filter_map-append (stands_at (is_unmounted made) p) (mounted made) (x ∷ []) ∙ ap (λ o. standing made p ++ cons_option o []) (stands (is_unmounted made) p t k fresh) ∙ up_standing old new t k sets puts made unused free kept p;
       named = λ p. subst (λ (o : Option ℕ). IfSome o (λ d. was_mounted (made ++ m ∷ []) d ≡ true)) (sym (puts p)) (up_named t k p (last_at old.places p) made (made ++ m ∷ []) was (kept.named p));
-      mounted_first = λ d none. gone d ∙ kept.mounted_first d (or-none (was_mounted made d) (nat_eq k d) (sym (was d) ∙ none));
+      mounted_first = λ d none. gone d ∙ kept.mounted_first d (or_parts (was_mounted made d) (nat_eq k d) (sym (was d) ∙ none)).0;
     }
 
 -- ---- the calls
@@ -242,7 +231,7 @@ mount_made old new t k devices good sets puts = makes old new (Mount t k) Accept
 pub unmount_made : (old new : Register) (k : ℕ) → new.devices ≡ old.devices → new.places ≡ old.places → nat_eq k 0 ≡ false → is_up old.states k ≡ true → ((d : ℕ) → state_at new.states d ≡ (if nat_eq k d then Some false else state_at old.states d)) → Makes old new (Unmount k) Accepted
 unmount_made old new k devices places device here sets = makes old new (Unmount k) Accepted devices
     (λ made kept. ap (λ b. if b then Accepted else Refused (NoDomain k)) (live_is made old kept k device ∙ here))
-    (λ made kept. down old new k sets made places (and-first (was_mounted made k) (not (is_unmounted made k)) (sym (up-is made old kept k) ∙ here)) kept)
+    (λ made kept. down old new k sets made places (and_parts (was_mounted made k) (not (is_unmounted made k)) (sym (up-is made old kept k) ∙ here)).0 kept)
 
 pub unmount_refused : (r : Register) (k : ℕ) → (nat_eq k 0 ≡ true) ⊎ (is_up r.states k ≡ false) → Makes r r (Unmount k) (Refused (NoDomain k))
 unmount_refused r k why = makes r r (Unmount k) (Refused (NoDomain k)) refl

@@ -1,5 +1,6 @@
 -- In the order of paths, a row below a path comes directly after it.
 use Rattle.std.proofs.Common.{◌≡◌, ℕ, zero, suc, ◌<◌, Bool, true, false, ◌&&◌, ◌≤◌, List, [], ◌∷◌, length, get_or, refl, ap, sym, ◌∙◌, arith}
+use Rattle.std.proofs.lemmas.Bool.{or_right}
 use Rattle.std.specs.Prelude.{◌||◌}
 use Rattle.std.specs.Ordering.{is_eq, is_lt, ordering_then, ordering_reverse, eq_by_cmp}
 use Rattle.std.specs.declared.cmp.Ordering.TheVariants.{Less, Equal, Greater}
@@ -87,8 +88,4 @@ here_below [] q i inside same = absurd (omega arith)
 here_below (x ∷ rows) q zero inside same =
     let is : x.path ≡ q = path_cmp-IsAntisymmetric x.path q (same x) in
     ap (λ b. b || has rows q) (ap (is_prefix q) is ∙ front_itself q)
-here_below (x ∷ rows) q (suc i) inside same = or-true (is_prefix q x.path) (has rows q) (here_below rows q i (omega arith) (λ d. same d))
-  where
-    or-true : (a b : Bool) → b ≡ true → (a || b) ≡ true
-    or-true true b e = refl
-    or-true false b e = e
+here_below (x ∷ rows) q (suc i) inside same = or_right (is_prefix q x.path) (has rows q) (here_below rows q i (omega arith) (λ d. same d))

@@ -2,7 +2,7 @@
 use Rattle.std.proofs.Common.{◌≡◌, ◌⊎◌, inl, inr, ⊎_elim, Bool, true, false, not, ◌&&◌, List, [], ◌∷◌, ◌++◌, Option, Some, if◌then◌else◌, refl, ap, sym, ◌∙◌}
 use Rattle.std.specs.Prelude.{◌||◌}
 use Rattle.std.specs.List.{list_all, list_any}
-use Rattle.std.proofs.lemmas.Bool.{and_parts, and_from}
+use Rattle.std.proofs.lemmas.Bool.{and_parts, and_from, or_parts}
 use Rattle.sal_types.specs.declared.value.Cell.{Cell}
 use Rattle.sal_types.specs.declared.value.Step.{Step}
 use Rattle.sal_types.specs.declared.value.Step.TheVariants.{Node}
@@ -38,12 +38,8 @@ ascending-patched (p ∷ ps) rows rising = ascending-patched ps (with_cell rows 
 pub not-patched : (ps : List Patch) (rows : List Row) (r : List Step) → at_one r ps ≡ false → cell (patched rows ps) r ≡ cell rows r
 not-patched [] rows r none = refl
 not-patched (p ∷ ps) rows r none =
-    let here : path_eq r p.path ≡ false = (no_or (path_eq r p.path) (at_one r ps) none).0 in
-    not-patched ps (with_cell rows p.path p.cell) r (no_or (path_eq r p.path) (at_one r ps) none).1 ∙ cell-with_cell rows p.path p.cell r ∙ ap (λ b. if b then p.cell else cell rows r) here
-  where
-    no_or : (a b : Bool) → (a || b) ≡ false → (a ≡ false) × (b ≡ false)
-    no_or true b e = cc
-    no_or false b e = (refl, e)
+    let here : path_eq r p.path ≡ false = (or_parts (path_eq r p.path) (at_one r ps) none).0 in
+    not-patched ps (with_cell rows p.path p.cell) r (or_parts (path_eq r p.path) (at_one r ps) none).1 ∙ cell-with_cell rows p.path p.cell r ∙ ap (λ b. if b then p.cell else cell rows r) here
 
 -- a patch of the list with a property of its path
 record Found (t : Patch → Bool) (r : List Step) (o : Option Cell) : Type 0 where
@@ -85,14 +81,10 @@ apart q x y out inside =
       | false ↦ λ is. refl
     ] refl
 
-no_or : (a b : Bool) → (a || b) ≡ false → (a ≡ false) × (b ≡ false)
-no_or true b e = cc
-no_or false b e = (refl, e)
-
 none_at : (q x : List Step) (ps : List Patch) → list_any (λ p. is_prefix q p.path) ps ≡ false → is_prefix q x ≡ true → at_one x ps ≡ false
 none_at q x [] none inside = refl
 none_at q x (p ∷ ps) none inside =
-    let (first, rest) = no_or (is_prefix q p.path) (list_any (λ p. is_prefix q p.path) ps) none in
+    let (first, rest) = or_parts (is_prefix q p.path) (list_any (λ p. is_prefix q p.path) ps) none in
     ap (λ b. b || at_one x ps) (apart q x p.path first inside) ∙ none_at q x ps rest inside
 
 -- ---- the two tests

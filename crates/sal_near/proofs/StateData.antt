@@ -1,5 +1,6 @@
 -- The state data after patches.
 use Rattle.std.proofs.Common.{◌≡◌, Bool, true, false, ◌&&◌, List, [], ◌∷◌, Some, None, if◌then◌else◌, refl, ap, sym, ◌∙◌}
+use Rattle.std.proofs.lemmas.Bool.{or_right}
 use Rattle.std.specs.Prelude.{◌||◌, is_some}
 use Rattle.std.specs.List.{list_any}
 use Rattle.sal_types.specs.declared.value.Cell.{Cell}
@@ -32,10 +33,6 @@ any_cell t (x ∷ rows) e =
           | false ↦ λ is. (r, c, holds, ap (λ b. if b then Some x.cell else cell rows r) is ∙ f)
         ] refl
 
-or-true : (a b : Bool) → b ≡ true → (a || b) ≡ true
-or-true true b e = refl
-or-true false b e = e
-
 -- a cell of a state node that one of the patches is at
 left-some : (table : SchemaTable) (rows : List Row) (ps : List Patch) (r : List Step) (c : Cell) → at_one r ps ≡ true → is_of_state table r ≡ true → cell rows r ≡ Some c → leave_state table rows ps ≡ true
 left-some table rows [] r c at state e = cc
@@ -45,7 +42,7 @@ left-some table rows (p ∷ ps) r c at state e =
           let same = same_path r p.path is in
           let here : leaves_state table rows p ≡ true = sym (ap (λ x. is_of_state table x && is_some (cell rows x)) same) ∙ ap (λ b. b && is_some (cell rows r)) state ∙ ap is_some e in
           ap (λ b. b || leave_state table rows ps) here
-      | false ↦ λ is f. or-true (leaves_state table rows p) (leave_state table rows ps) (left-some table rows ps r c f state e)
+      | false ↦ λ is f. or_right (leaves_state table rows p) (leave_state table rows ps) (left-some table rows ps r c f state e)
     ] refl at
 
 -- what a patch left is there

@@ -1,5 +1,6 @@
 -- Clients in ascending order.
 use Rattle.std.proofs.Common.{◌≡◌, ℕ, suc, ◌+◌, ◌<◌, ◌≤◌, Bool, true, false, not, ◌&&◌, ◌||◌, List, [], ◌∷◌, Some, None, length, get_or, refl, ap, sym, ◌∙◌, subst, cond, arith, if◌then◌else◌, nat_eq, nat_le, nat_lt}
+use Rattle.std.proofs.lemmas.Bool.{and_parts}
 use Rattle.std.specs.List.{insert, list_any, position, position_or_len}
 use Rattle.std.specs.Option.{unwrap_or}
 use Rattle.std.proofs.lemmas.Bool.Decides.{nat_tests}
@@ -97,15 +98,11 @@ pub with-same : (c : ℕ) (ds : List ℕ) → stands_at (first_from c ds) c ds �
 with-same c [] here = cc
 with-same c (d ∷ ds) here =
     elim (nat_le c d) as (λ b. nat_le c d ≡ b → stands_at (if b then 0 else suc (first_from c ds)) c (d ∷ ds) ≡ true → with_client c (d ∷ ds) ≡ d ∷ ds) [
-      | true ↦ λ e same. let mine : nat_eq d c ≡ true = second (nat_lt 0 (length (d ∷ ds))) (nat_eq d c) same in let no : nat_lt c d ≡ false = grind (arith, nat_tests) in let yes : nat_eq c d ≡ true = grind (arith, nat_tests) in
+      | true ↦ λ e same. let mine : nat_eq d c ≡ true = (and_parts (nat_lt 0 (length (d ∷ ds))) (nat_eq d c) same).1 in let no : nat_lt c d ≡ false = grind (arith, nat_tests) in let yes : nat_eq c d ≡ true = grind (arith, nat_tests) in
           ap (λ b. if b then c ∷ d ∷ ds else (if nat_eq c d then d ∷ ds else d ∷ with_client c ds)) no ∙ ap (λ b. if b then d ∷ ds else d ∷ with_client c ds) yes
       | false ↦ λ e same. let no : nat_lt c d ≡ false = grind (arith, nat_tests) in let un : nat_eq c d ≡ false = grind (arith, nat_tests) in
           ap (λ b. if b then c ∷ d ∷ ds else (if nat_eq c d then d ∷ ds else d ∷ with_client c ds)) no ∙ ap (λ b. if b then d ∷ ds else d ∷ with_client c ds) un ∙ ap (λ l. d ∷ l) (with-same c ds (sym (later c d ds) ∙ same))
     ] refl here
-  where
-    second : (a b : Bool) → (a && b) ≡ true → b ≡ true
-    second true b e = e
-    second false b e = cc
 
 pub with-insert : (c : ℕ) (ds : List ℕ) → stands_at (first_from c ds) c ds ≡ false → insert ds (first_from c ds) c ≡ with_client c ds
 with-insert c [] differs = refl

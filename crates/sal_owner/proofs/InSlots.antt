@@ -1,5 +1,6 @@
 -- The slots when a client registers or unregisters.
 use Rattle.std.proofs.Common.{◌≡◌, ℕ, zero, suc, ◌+◌, ◌<◌, ◌≤◌, Bool, true, false, not, ◌||◌, List, [], ◌∷◌, ◌++◌, Option, Some, None, length, take, refl, ap, sym, ◌∙◌, cond, add-one, arith, filter, if◌then◌else◌, nat_eq, slice_get, get_or, unwrap_or}
+use Rattle.std.proofs.lemmas.Bool.{or_right}
 use Rattle.std.specs.Prelude.{is_some}
 use Rattle.std.specs.BTreeMap.{is_at}
 use Rattle.std.specs.List.{list_any, slice_set as set}
@@ -128,11 +129,7 @@ stands [] i c e = cc
 stands (None ∷ slots) zero c e = cc
 stands (Some d ∷ slots) zero c e = let is : d ≡ c = ap (λ (o : Option ℕ). unwrap_or o c) e in ap (λ b. b || list_any (nat_eq c) (clients_in slots)) (ap (nat_eq c) is ∙ own c)
 stands (None ∷ slots) (suc i) c e = stands slots i c e
-stands (Some d ∷ slots) (suc i) c e = or-last (nat_eq c d) (list_any (nat_eq c) (clients_in slots)) (stands slots i c e)
-  where
-    or-last : (a b : Bool) → b ≡ true → (a || b) ≡ true
-    or-last true b e = refl
-    or-last false b e = e
+stands (Some d ∷ slots) (suc i) c e = or_right (nat_eq c d) (list_any (nat_eq c) (clients_in slots)) (stands slots i c e)
 
 absent : (slots : Slots) (c : ℕ) → ((i : ℕ) → in_slot slots i ≡ Some c → ⊥) → list_any (nat_eq c) (clients_in slots) ≡ false
 absent [] c none = refl

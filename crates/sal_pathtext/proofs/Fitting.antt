@@ -1,9 +1,9 @@
 -- A path that is read fits the schema.
-use Rattle.std.proofs.Common.{◌≡◌, ℕ, zero, suc, Bool, true, false, ◌&&◌, ◌==◌, List, [], ◌∷◌, ◌++◌, drop, Option, Some, None, Result, Ok, Err, if◌then◌else◌, refl, sym, ap, ◌∙◌, arith}
+use Rattle.std.proofs.Common.{◌≡◌, ℕ, zero, suc, Bool, true, false, ◌==◌, List, [], ◌∷◌, ◌++◌, drop, Option, Some, None, Result, Ok, Err, if◌then◌else◌, refl, sym, ap, ◌∙◌, arith}
 use Rattle.std.specs.Prelude.{option_map, option_and_then, find}
 use Rattle.std.specs.List.{list_all, list_any, slice_get}
 use Rattle.std.specs.Option.{option_map_or}
-use Rattle.std.proofs.lemmas.Bool.{and_from}
+use Rattle.std.proofs.lemmas.Bool.{and_from, and_parts}
 use Rattle.std.proofs.lemmas.Bool.Decides.{nat_tests}
 use Rattle.std.proofs.lemmas.Option.{option_and_then_some}
 use Rattle.sal_types.specs.declared.value.Value.{Value}
@@ -43,14 +43,6 @@ taken_ok at (Err fault) value e = cc
 
 -- ---- tests
 
-left : (a b : Bool) → (a && b) ≡ true → a ≡ true
-left true b e = refl
-left false b e = e
-
-right : (a b : Bool) → (a && b) ≡ true → b ≡ true
-right true b e = e
-right false b e = cc
-
 pub some_value : (x y : Value) → Some x ≡ Some y → x ≡ y
 some_value x y e = cc
 
@@ -78,18 +70,18 @@ module _ (table : SchemaTable) where
   right-append : (given : List Given) (one : Given) → are_right given ≡ true → is_right one ≡ true → are_right (given ++ one ∷ []) ≡ true
   right-append [] one all is = and_from (is_right one) true is refl
   right-append (x ∷ given) one all is =
-      and_from (is_right x) (are_right (given ++ one ∷ [])) (left (is_right x) (are_right given) all) (right-append given one (right (is_right x) (are_right given) all) is)
+      and_from (is_right x) (are_right (given ++ one ∷ [])) (and_parts (is_right x) (are_right given) all).0 (right-append given one (and_parts (is_right x) (are_right given) all).1 is)
 
   -- what was found for a leaf
   given_fits : (given : List Given) (leaf : ℕ) (value : Value) → are_right given ≡ true → value_given given leaf ≡ Some value → is_of_node table leaf value ≡ true
   given_fits [] leaf value all e = cc
-  given_fits (x ∷ given) leaf value all e = by (λ e. given_fits given leaf value (right (is_right x) (are_right given) all) e) (is_for leaf x) refl e
+  given_fits (x ∷ given) leaf value all e = by (λ e. given_fits given leaf value (and_parts (is_right x) (are_right given) all).1 e) (is_for leaf x) refl e
     where
       by : (value_given given leaf ≡ Some value → is_of_node table leaf value ≡ true) → (b : Bool) → is_for leaf x ≡ b → option_map (λ (one : Given). one.value) (if b then Some x else find (is_for leaf) given) ≡ Some value → is_of_node table leaf value ≡ true
       by later true is e =
           let here : x.leaf ≡ leaf = grind (arith, nat_tests) in
           let same : x.value ≡ value = some_value x.value value e in
-          sym (λ i. is_of_node table (here i) (same i)) ∙ left (is_right x) (are_right given) all
+          sym (λ i. is_of_node table (here i) (same i)) ∙ (and_parts (is_right x) (are_right given) all).0
       by later false is e = later e
 
   values_fit : (given : List Given) (keys : List ℕ) (values : List Value) → are_right given ≡ true → values_given given keys ≡ Some values → are_of_nodes table keys values ≡ true

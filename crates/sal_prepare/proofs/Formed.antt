@@ -1,5 +1,6 @@
 -- The patterns of all versions are well formed, or the first malformed one counts.
-use Rattle.std.proofs.Common.{◌≡◌, ℕ, ◌+◌, zero, suc, Bool, true, false, ◌||◌, List, [], ◌∷◌, take, Option, None, Some, if◌then◌else◌, Result, Ok, Err, refl, ap, ◌∙◌, arith}
+use Rattle.std.proofs.Common.{◌≡◌, ℕ, ◌+◌, zero, suc, Bool, true, false, List, [], ◌∷◌, take, Option, None, Some, if◌then◌else◌, Result, Ok, Err, refl, ap, ◌∙◌, arith}
+use Rattle.std.proofs.lemmas.Bool.{or_parts}
 use Rattle.std.specs.Prelude.{slice_get}
 use Rattle.std.specs.List.{list_any}
 use Rattle.std.specs.Option.{option_map_or}
@@ -12,16 +13,12 @@ use Rattle.sal_prepare.specs.declared.status.Status.TheVariants.{BadSchema}
 use Rattle.sal_prepare.specs.Each.{each_from}
 use Rattle.sal_prepare.specs.Scripted.{if_formed, malformed_from, or_unformed, pattern_text}
 
-either_false : (a b : Bool) → (a || b) ≡ false → (a ≡ false) × (b ≡ false)
-either_false true b e = cc
-either_false false b e = (refl, e)
-
 -- ---- the versions of one schema
 
 pub none_from : (versions : List SchemaTable) (v : ℕ) → list_any is_malformed versions ≡ false → malformed_from v versions ≡ None
 none_from [] v none = refl
 none_from (t ∷ ts) v none =
-    let both = either_false (is_malformed t) (list_any is_malformed ts) none in
+    let both = or_parts (is_malformed t) (list_any is_malformed ts) none in
     ap (λ (b : Bool). if b then Some v else malformed_from (v + 1) ts) both.0 ∙ none_from ts (v + 1) both.1
 
 pub found_from : (versions : List SchemaTable) (k v : ℕ) → option_map_or is_malformed (slice_get versions v) false ≡ true → list_any is_malformed (take v versions) ≡ false
@@ -31,7 +28,7 @@ found_from (t ∷ ts) k zero is none =
     let there : k ≡ k + 0 = omega (arith) in
     ap (λ (b : Bool). if b then Some k else malformed_from (k + 1) ts) is ∙ ap (λ (n : ℕ). Some n) there
 found_from (t ∷ ts) k (suc v) is none =
-    let both = either_false (is_malformed t) (list_any is_malformed (take v ts)) none in
+    let both = or_parts (is_malformed t) (list_any is_malformed (take v ts)) none in
     let there : k + 1 + v ≡ k + suc v = omega (arith) in
     ap (λ (b : Bool). if b then Some k else malformed_from (k + 1) ts) both.0 ∙ found_from ts (k + 1) v is both.1 ∙ ap (λ (n : ℕ). Some n) there
 
@@ -45,7 +42,7 @@ next o n versions rest = or_unformed n versions o >>= (λ first. rest >>= (λ mo
 pub all_formed : (tables : List (List SchemaTable)) (n : ℕ) → list_any are_malformed tables ≡ false → each_from if_formed n tables ≡ Ok tables
 all_formed [] n none = refl
 all_formed (versions ∷ ts) n none =
-    let both = either_false (are_malformed versions) (list_any are_malformed ts) none in
+    let both = or_parts (are_malformed versions) (list_any are_malformed ts) none in
     ap (λ (o : Option ℕ). next o n versions (each_from if_formed (n + 1) ts)) (none_from versions 0 both.0)
     ∙ ap (λ (rest : Result (List (List SchemaTable)) Status). rest >>= (λ more. Ok (versions ∷ more))) (all_formed ts (n + 1) both.1)
 
@@ -62,7 +59,7 @@ first_malformed (versions ∷ ts) n zero v is none =
     ap (λ (o : Option ℕ). next o n versions (each_from if_formed (n + 1) ts)) (found_from versions 0 v is.0 is.1 ∙ ap (λ (k : ℕ). Some k) own)
     ∙ ap (λ (k : ℕ). Err (BadSchema k (pattern_text v))) there
 first_malformed (versions ∷ ts) n (suc d) v is none =
-    let both = either_false (are_malformed versions) (list_any are_malformed (take d ts)) none in
+    let both = or_parts (are_malformed versions) (list_any are_malformed (take d ts)) none in
     let there : n + 1 + d ≡ n + suc d = omega (arith) in
     ap (λ (o : Option ℕ). next o n versions (each_from if_formed (n + 1) ts)) (none_from versions 0 both.0)
     ∙ ap (λ (rest : Result (List (List SchemaTable)) Status). rest >>= (λ more. Ok (versions ∷ more))) (first_malformed ts (n + 1) d v is both.1)

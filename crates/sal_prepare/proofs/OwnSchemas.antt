@@ -1,5 +1,6 @@
 -- The patterns of all versions of one schema.
-use Rattle.std.proofs.Common.{◌≡◌, ℕ, ◌+◌, ◌<◌, zero, suc, Bool, true, false, ◌||◌, List, [], ◌∷◌, length, get_or, take, Option, Some, Result, Ok, Err, refl, ap, sym, ◌∙◌, subst, arith}
+use Rattle.std.proofs.Common.{◌≡◌, ℕ, ◌+◌, ◌<◌, zero, suc, true, false, ◌||◌, List, [], ◌∷◌, length, get_or, take, Option, Some, Result, Ok, Err, refl, ap, sym, ◌∙◌, subst, arith}
+use Rattle.std.proofs.lemmas.Bool.{or_parts}
 use Rattle.std.specs.Prelude.{slice_get, IfOk, IfErr}
 use Rattle.std.proofs.lemmas.List.{length-map, take_all}
 use Rattle.std.specs.declared.alloc.Global.{Global}
@@ -74,12 +75,8 @@ older_well [] order last = refl
 older_well (t ∷ []) order last = ap (λ b. b || false) last
 older_well (t ∷ next ∷ more) order last =
     let rest : list_any is_malformed (next ∷ more) ≡ false = older_well (next ∷ more) order.1 last in
-    let newer : is_malformed next ≡ false = first_of (is_malformed next) (list_any is_malformed more) rest in
+    let newer : is_malformed next ≡ false = (or_parts (is_malformed next) (list_any is_malformed more) rest).0 in
     ap (λ b. b || list_any is_malformed (next ∷ more)) (older_formed next t order.0 newer) ∙ rest
-  where
-    first_of : (a b : Bool) → (a || b) ≡ false → a ≡ false
-    first_of true b e = cc
-    first_of false b e = refl
 
 -- if all are well formed, they are the versions
 pub all_well : (tables : List SchemaTable) → list_any is_malformed tables ≡ false → if_formed 0 tables ≡ Ok tables

@@ -1,5 +1,6 @@
 -- No floating-point number is in what is written for rows.
-use Rattle.std.proofs.Common.{◌≡◌, ℕ, zero, suc, ◌+◌, Bool, false, ◌||◌, List, [], ◌∷◌, ◌++◌, Option, Some, None, Ordering, Less, Equal, Greater, refl}
+use Rattle.std.proofs.Common.{◌≡◌, ℕ, zero, suc, ◌+◌, false, List, [], ◌∷◌, ◌++◌, Option, Some, None, Ordering, Less, Equal, Greater, refl}
+use Rattle.std.proofs.lemmas.Bool.{or_from}
 use Rattle.std.specs.Prelude.{fold}
 use Rattle.std.specs.Cmp.Lexicographic.{slice_cmp}
 use Rattle.std.specs.Ordering.{nat_cmp, match_ordering}
@@ -25,9 +26,6 @@ use Rattle.sal_tree_text.proofs.Floats.{has_float-scalar, if_some, one_of}
 
 -- ---- a choice among values without a float
 
-neither : (a b : Bool) → a ≡ false → b ≡ false → (a || b) ≡ false
-neither a b p q = rw (p, q) refl
-
 chosen : (o : Ordering) (a b c : Members) → members_have_float a ≡ false → members_have_float b ≡ false → members_have_float c ≡ false → members_have_float (match_ordering o a b c) ≡ false
 chosen Less a b c p q r = p
 chosen Equal a b c p q r = q
@@ -38,14 +36,14 @@ whole_put k d no_members one all = rw one refl
 whole_put k d (member l e ms) one all =
     let here = or_first (has_float e) (members_have_float ms) all in
     let rest = or_second (has_float e) (members_have_float ms) all in
-    chosen (slice_cmp nat_cmp k l) _ _ _ (neither (has_float d) _ one all) (neither (has_float d) _ one rest) (neither (has_float e) _ here (whole_put k d ms one rest))
+    chosen (slice_cmp nat_cmp k l) _ _ _ (or_from (has_float d) _ one all) (or_from (has_float d) _ one rest) (or_from (has_float e) _ here (whole_put k d ms one rest))
 
 whole_append : (xs ys : List Data) → items_have_float (items_of xs) ≡ false → items_have_float (items_of ys) ≡ false → items_have_float (items_of (xs ++ ys)) ≡ false
 whole_append [] ys p q = q
 whole_append (x ∷ xs) ys p q =
     let here = or_first (has_float x) (items_have_float (items_of xs)) p in
     let rest = or_second (has_float x) (items_have_float (items_of xs)) p in
-    neither (has_float x) _ here (whole_append xs ys rest q)
+    or_from (has_float x) _ here (whole_append xs ys rest q)
 
 -- ---- values
 
@@ -80,7 +78,7 @@ whole_item : (table : SchemaTable) (n : ℕ) (step : Option Step) → items_have
 whole_item table n None = refl
 whole_item table n (Some (Node m)) = refl
 whole_item table n (Some (Key values)) = refl
-whole_item table n (Some (Item value)) = neither (has_float (scalar_json table n value)) false (has_float-scalar table n value) refl
+whole_item table n (Some (Item value)) = or_from (has_float (scalar_json table n value)) false (has_float-scalar table n value) refl
 
 whole_items : (table : SchemaTable) (n k : ℕ) (runs : List (List Row)) → items_have_float (items_of (items_json table n k runs)) ≡ false
 whole_items table n k [] = refl
@@ -89,7 +87,7 @@ whole_items table n k (run ∷ runs) = whole_append (item_json table n (step_of 
 whole_entry : (table : SchemaTable) (n : ℕ) (f : Writer) (k : ℕ) (step : Option Step) (run : List Row) → IsWhole f → items_have_float (items_of (entry_json table n f k step run)) ≡ false
 whole_entry table n f k None run given = refl
 whole_entry table n f k (Some (Node m)) run given = refl
-whole_entry table n f k (Some (Key values)) run given = neither (has_float (members_json table (Some n) f (k + 1) run)) false (whole_members table (Some n) f (k + 1) run given) refl
+whole_entry table n f k (Some (Key values)) run given = or_from (has_float (members_json table (Some n) f (k + 1) run)) false (whole_members table (Some n) f (k + 1) run given) refl
 whole_entry table n f k (Some (Item value)) run given = refl
 
 whole_entries : (table : SchemaTable) (n : ℕ) (f : Writer) (k : ℕ) (runs : List (List Row)) → IsWhole f → items_have_float (items_of (entries_json table n f k runs)) ≡ false

@@ -1,5 +1,6 @@
 -- A conflict names a commit of a span that touched its path.
 use Rattle.std.proofs.Common.{◌≡◌, ℕ, suc, ◌+◌, ◌-◌, ◌<◌, ◌≤◌, Bool, true, false, List, [], ◌∷◌, ◌++◌, ◌&&◌, take, length, reverse, Option, None, Some, refl, ap, sym, ◌∙◌, subst, cond, if◌then◌else◌, arith, append_assoc, append-nil}
+use Rattle.std.proofs.lemmas.Bool.{and_parts}
 use Rattle.std.specs.Prelude.{not, find, unwrap_or, slice_get, is_some}
 use Rattle.std.specs.List.{list_any, All, Any, Contains, position_from}
 use Rattle.std.specs.Option.{option_or, option_map, option_map_or}
@@ -28,7 +29,7 @@ use Rattle.sal_rows.specs.declared.clash.Rules.{Rules}
 use Rattle.sal_rows.specs.Clash.{at_row, checks_leafs, clash, clash_from, is_leaf, is_stale, leaf_clash, op_clash, parent_clash, path_by, path_clash, read_clash, reads_from, needs_parents, is_lost, lost_parent, tip, numbers_over, depths_above, last_touch_over}
 use Rattle.sal_rows.specs.Quiet.{AreSpans, with_own}
 use Rattle.sal_rows.specs.Named.{place_of, IsPlaced, NamesALaterCommit}
-use Rattle.sal_rows.proofs.Quiet.{over_untouched, both_true}
+use Rattle.sal_rows.proofs.Quiet.{over_untouched}
 pub use Rattle.sal_types.proofs.Shared.{not_true}
 
 any_here : {X : Type 0} (P : X → Type 0) (x : X) (xs : List X) → P x → Any P (x ∷ xs)
@@ -119,8 +120,8 @@ module _ (opening : Store → List Row) (commits : List (List Op)) (base : Store
   lost rules earlier op d w =
       let q = take d op.path in
       let t = touches_at opening commits op.store q in
-      let parts = both_true (is_some (cell (base op.store) q)) (not (has (tip opening commits op.store) q) && not (is_some (last_setting op.store earlier q))) w.0 in
-      let gone = not_true (has (tip opening commits op.store) q) (both_true (not (has (tip opening commits op.store) q)) (not (is_some (last_setting op.store earlier q))) parts.1).0 in
+      let parts = and_parts (is_some (cell (base op.store) q)) (not (has (tip opening commits op.store) q) && not (is_some (last_setting op.store earlier q))) w.0 in
+      let gone = not_true (has (tip opening commits op.store) q) (and_parts (not (has (tip opening commits op.store) q)) (not (is_some (last_setting op.store earlier q))) parts.1).0 in
       let lying : ℕ → Type 0 = λ n. (0 < n) × (n ≤ 0 + (length op.path - 1)) in
       let low : (0 < d) × (d ≤ 0 + (length op.path - 1)) = All-contains lying (depths_above op.path) d (numbers_lie 0 (length op.path - 1)) w.1 in
       elim (find t (reverse (numbers_over (span ∷ spans)))) as (λ (o : Option ℕ). find t (reverse (numbers_over (span ∷ spans))) ≡ o → IsOf rules earlier op (record { op = length earlier; row = None; depth = d; kind = Deleted; commit = unwrap_or o 0 })) [
@@ -178,8 +179,8 @@ module _ (opening : Store → List Row) (commits : List (List Op)) (base : Store
       let kind = kind_by (is_some (cell (base op.store) p)) (is_some (cell (tip opening commits op.store) p)) in
       let other = not (same_cell (cell (base op.store) row.path) (cell (tip opening commits op.store) row.path)) in
       let touched = is_some (last_touch_over opening commits (span ∷ spans) op.store row.path) in
-      let parts = both_true (is_leaf row.cell) (other && touched) is in
-      let (k, named) = some_of (last_touch_over opening commits (span ∷ spans) op.store row.path) (both_true other touched parts.1).1 in
+      let parts = and_parts (is_leaf row.cell) (other && touched) is in
+      let (k, named) = some_of (last_touch_over opening commits (span ∷ spans) op.store row.path) (and_parts other touched parts.1).1 in
       let names : find t (reverse (numbers_over (span ∷ spans))) ≡ Some k = ap (last_touch_over opening commits (span ∷ spans) op.store) here ∙ named in
       let whole : take (length p) p ≡ p = take_all (length p) p (omega arith) in
       let found = found_in t (span ∷ spans) k (ordered_all (length commits) span spans are) names in

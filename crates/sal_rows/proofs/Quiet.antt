@@ -1,6 +1,7 @@
 -- Where nothing clashes, base and tip have the same rows at and below each path that is put or deleted, and under version rules 2 the same
 -- cell at each leaf that is merged.
 use Rattle.std.proofs.Common.{◌≡◌, ℕ, zero, suc, ◌+◌, ◌-◌, ◌≤◌, Bool, true, false, List, [], ◌∷◌, ◌++◌, ◌&&◌, ◌||◌, Option, None, Some, refl, ap, sym, subst, ◌∙◌, cond, arith, take, length, append_assoc, append-nil, reverse, if◌then◌else◌}
+use Rattle.std.proofs.lemmas.Bool.{and_parts, or_parts}
 use Rattle.std.specs.Prelude.{is_some, not, find, slice_get, unwrap_or}
 use Rattle.std.specs.List.{list_any, position_from}
 use Rattle.std.specs.Option.{option_map, option_or}
@@ -22,12 +23,12 @@ use Rattle.sal_rows.specs.PathClash.{Difference as At, difference, is_covered}
 use Rattle.sal_rows.proofs.Applied.{cell-apply_ops}
 use Rattle.sal_rows.proofs.Patched.{one_cell}
 use Rattle.sal_rows.proofs.SpanTouches.{find_none}
-use Rattle.sal_rows.proofs.Untouched.{or_first, or_second, no_cell, cell-untouched}
+use Rattle.sal_rows.proofs.Untouched.{no_cell, cell-untouched}
 use Rattle.sal_types.proofs.Prefixes.{IsPrefix-from_test, is_prefix-append}
 use Rattle.sal_rows.specs.declared.clash.Clash.{Clash}
 use Rattle.sal_rows.specs.declared.clash.Rules.{Rules}
 use Rattle.sal_rows.specs.Clash.{at_row, checks_leafs, clash_from, is_leaf, is_stale, last_touch_over, leaf_clash, numbers_over, op_clash, parent_clash, path_clash, read_clash, reads_from, tip}
-use Rattle.sal_rows.specs.Quiet.{SameBelow, AreFresh, AreSpans, with_own, AreQuiet, AreReadsQuiet, NoClashIsQuiet, SameOrTouched}
+use Rattle.sal_rows.specs.Quiet.{SameBelow, AreFresh, AreSpans, with_own, AreQuiet, NoClashIsQuiet, SameOrTouched}
 
 -- ---- rows below a path
 
@@ -77,8 +78,8 @@ module _ (opening : Store → List Row) (commits : List (List Op)) (s : Store) (
       let back : a ≡ a + 1 - 1 = omega arith in
       let next : suc a ≡ a + 1 = omega arith in
       let there : (a + 1) + n ≡ a + suc n = omega arith in
-      let first = ap (λ k. commit_touches (tree_at opening commits s k) s p (slice_get commits k)) back ∙ or_first (touches_at opening commits s p (a + 1)) _ e in
-      let rest = untouched n (a + 1) (or_second (touches_at opening commits s p (a + 1)) _ e) in
+      let first = ap (λ k. commit_touches (tree_at opening commits s k) s p (slice_get commits k)) back ∙ (or_parts (touches_at opening commits s p (a + 1)) _ e).0 in
+      let rest = untouched n (a + 1) (or_parts (touches_at opening commits s p (a + 1)) _ e).1 in
       λ r below. one_commit s p (opening s) commits a first r below ∙ ap (λ k. cell (tree_at opening commits s k) r) next ∙ rest r below ∙ ap (λ k. cell (tree_at opening commits s k) r) there
 
   both_absent : (was is t : Bool) → was ≡ false → unchanged_by was is t ≡ true → is ≡ false
@@ -147,10 +148,10 @@ module _ (opening : Store → List Row) (commits : List (List Op)) (s : Store) (
 
   untouched_all : (span : Span) (spans : List Span) → AreSpans (length commits) span spans → list_any (touches_at opening commits s p) (numbers_over (span ∷ spans)) ≡ false → AllSame (span ∷ spans)
   untouched_all span [] are none =
-      (untouched-same span are.0 (or_first (list_any (touches_at opening commits s p) (numbers_in span)) false (sym (any_append (touches_at opening commits s p) (numbers_in span) []) ∙ none)), tt)
+      (untouched-same span are.0 (or_parts (list_any (touches_at opening commits s p) (numbers_in span)) false (sym (any_append (touches_at opening commits s p) (numbers_in span) []) ∙ none)).0, tt)
   untouched_all span (next ∷ spans) are none =
       let parts = sym (any_append (touches_at opening commits s p) (numbers_in span) (numbers_over (next ∷ spans))) ∙ none in
-      (untouched-same span are.0 (or_first (list_any (touches_at opening commits s p) (numbers_in span)) _ parts), untouched_all next spans are.2 (or_second (list_any (touches_at opening commits s p) (numbers_in span)) _ parts))
+      (untouched-same span are.0 (or_parts (list_any (touches_at opening commits s p) (numbers_in span)) _ parts).0, untouched_all next spans are.2 (or_parts (list_any (touches_at opening commits s p) (numbers_in span)) _ parts).1)
 
   -- where p is unchanged over each span, base and tip have the same there
   pub over_unchanged : (span : Span) (spans : List Span) (tree : List Row) → AreSpans (length commits) span spans → find changed (span ∷ spans) ≡ None
@@ -186,11 +187,6 @@ same_stores Oper Oper e = refl
 same_stores Config Oper e = cc
 same_stores Oper Config e = cc
 
-pub both_true : (a b : Bool) → (a && b) ≡ true → (a ≡ true) × (b ≡ true)
-both_true true true e = (refl, refl)
-both_true true false e = cc
-both_true false b e = cc
-
 -- where a search by index finds nothing, nothing passes the test
 no_position : {X : Type 0} (t : X → Bool) (n : ℕ) (xs : List X) → position_from t n xs ≡ None → (i : ℕ) (x : X) → slice_get xs i ≡ Some x → t x ≡ false
 no_position t n [] e i x at = cc
@@ -222,8 +218,8 @@ module _ (opening : Store → List Row) (commits : List (List Op)) (base : Store
   at_covered (op ∷ earlier) s p quiet e =
       elim ((same_store op.store s && checks_path op.act) && is_prefix op.path p) as (λ b. ((same_store op.store s && checks_path op.act) && is_prefix op.path p) ≡ b → (b || is_covered earlier s p) ≡ true → SameBelow p (base s) (tip opening commits s)) [
         | true ↦ λ b f.
-            let parts = both_true (same_store op.store s && checks_path op.act) (is_prefix op.path p) b in
-            let tests = both_true (same_store op.store s) (checks_path op.act) parts.0 in
+            let parts = and_parts (same_store op.store s && checks_path op.act) (is_prefix op.path p) b in
+            let tests = and_parts (same_store op.store s) (checks_path op.act) parts.0 in
             let store = same_stores op.store s tests.0 in
             same-below op.path p (base s) (tip opening commits s) parts.1 (subst (λ (t : Store). SameBelow op.path (base t) (tip opening commits t)) store (quiet.0 tests.1))
         | false ↦ λ b f. at_covered earlier s p quiet.1 f

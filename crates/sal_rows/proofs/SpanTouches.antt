@@ -1,5 +1,6 @@
 -- A conflict names a commit that touched its path.
 use Rattle.std.proofs.Common.{◌≡◌, ℕ, zero, suc, ◌+◌, ◌-◌, ◌<◌, ◌≤◌, Bool, true, false, List, [], ◌∷◌, ◌++◌, ◌||◌, take, reverse, Option, None, Some, refl, ap, sym, ◌∙◌, subst, cond, if◌then◌else◌, arith, inl, inr}
+use Rattle.std.proofs.lemmas.Bool.{or_parts}
 use Rattle.std.specs.Prelude.{not, find, unwrap_or, slice_get}
 use Rattle.std.specs.List.{list_any, All, Any, Contains}
 use Rattle.std.specs.Option.{option_map}
@@ -21,7 +22,7 @@ use Rattle.sal_rows.specs.Commits.{numbers_after, numbers_in, tree_after, tree_a
 use Rattle.sal_rows.specs.declared.clash.Span.{Span}
 use Rattle.sal_rows.specs.PathClash.{Difference, difference, IsNamedIn}
 use Rattle.sal_rows.proofs.Cells.{path_eq-itself}
-use Rattle.sal_rows.proofs.Untouched.{or_first, or_second, no_cell, cell-untouched}
+use Rattle.sal_rows.proofs.Untouched.{no_cell, cell-untouched}
 
 -- ---- trees with the same cells below a path
 
@@ -73,8 +74,8 @@ module _ (opening : Store → List Row) (commits : List (List Op)) where
       let e : a + suc n ≡ a + 1 + n = omega arith in
       let back : a + 1 - 1 ≡ a = omega arith in
       let first : commit_touches (tree_at opening commits s a) s p (slice_get commits a) ≡ false =
-      ap (λ k. commit_touches (tree_at opening commits s k) s p (slice_get commits k)) (sym back) ∙ or_first (touches_at opening commits s p (a + 1)) (list_any (touches_at opening commits s p) (numbers_after (a + 1) n)) h in
-      ap (λ k. cell (tree_at opening commits s k) r) e ∙ many_commits s p r (a + 1) n (or_second (touches_at opening commits s p (a + 1)) _ h) below
+      ap (λ k. commit_touches (tree_at opening commits s k) s p (slice_get commits k)) (sym back) ∙ (or_parts (touches_at opening commits s p (a + 1)) (list_any (touches_at opening commits s p) (numbers_after (a + 1) n)) h).0 in
+      ap (λ k. cell (tree_at opening commits s k) r) e ∙ many_commits s p r (a + 1) n (or_parts (touches_at opening commits s p (a + 1)) _ h).1 below
       ∙ one_commit s p r a first below
 
   unchanged : (s : Store) (p : List Step) (span : Span) → span.from ≤ span.to → list_any (touches_at opening commits s p) (numbers_in span) ≡ false → is_unchanged opening commits s p span ≡ true

@@ -1,5 +1,6 @@
 -- Who provides what, once one more registers or one withdraws.
 use Rattle.std.proofs.Common.{◌≡◌, ℕ, Bool, true, false, not, ◌&&◌, List, [], ◌∷◌, ◌++◌, Option, Some, None, refl, ap, sym, ◌∙◌, cond, arith, if◌then◌else◌, nat_eq}
+use Rattle.std.proofs.lemmas.Bool.{and_parts}
 use Rattle.std.specs.Prelude.{slice_get}
 use Rattle.std.specs.List.{cons_option, filter, filter_map}
 use Rattle.std.specs.Option.{is_some, option_cmp, option_map_or, option_or}
@@ -11,7 +12,7 @@ use Rattle.std.specs.declared.cmp.Ordering.TheVariants.{Equal}
 use Rattle.std.proofs.lemmas.Bool.Decides.{nat_tests}
 use Rattle.std.proofs.lemmas.List.Elements.{filter_map-append}
 use Rattle.sal_types.specs.declared.value.Step.{Step}
-use Rattle.sal_types.specs.Order.{path_cmp, path_cmp-IsAntisymmetric, path_eq, path_eq-IsEquivalence, then-first, then-second}
+use Rattle.sal_types.specs.Order.{path_cmp, path_cmp-IsAntisymmetric, path_eq-IsEquivalence, then-first, then-second}
 use Rattle.sal_rpc.specs.declared.routes.Service.{Service}
 use Rattle.sal_rpc.specs.contracts.routes.ServiceOrd.TheImpl.Laws as service_ord_laws
 use Rattle.sal_rpc.specs.Routes.{service, service_cmp}
@@ -44,15 +45,10 @@ context-own : (a : Option (List Step)) → same_context a a ≡ true
 context-own None = refl
 context-own (Some p) = path_eq-IsEquivalence.refl p
 
-both : (a b : Bool) → (a && b) ≡ true → (a ≡ true) × (b ≡ true)
-both true true e = (refl, refl)
-both true false e = cc
-both false b e = cc
-
 -- the registration is for a service where it has this RPC and this context
 for-is : (s : Service) (r : Registration) → is_for s.rpc s.context r ≡ true → service r.rpc r.context ≡ s
 for-is s r e =
-    let parts = both (nat_eq r.rpc s.rpc) (same_context r.context s.context) e in
+    let parts = and_parts (nat_eq r.rpc s.rpc) (same_context r.context s.context) e in
     let number : nat_eq r.rpc s.rpc ≡ true = parts.0 in
     let rpc : r.rpc ≡ s.rpc = grind (arith, nat_tests) in
     let context : r.context ≡ s.context = context-is r.context s.context parts.1 in

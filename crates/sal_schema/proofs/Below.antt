@@ -1,15 +1,11 @@
 -- Properties of each number below another one.
 use Rattle.std.proofs.Common.{◌≡◌, ℕ, zero, suc, ◌+◌, ◌<◌, Bool, true, false, ◌&&◌, List, [], ◌∷◌, length, refl, ap, inl, inr, arith}
-use Rattle.std.proofs.lemmas.Bool.{cases_lt}
+use Rattle.std.proofs.lemmas.Bool.{cases_lt, and_right}
 use Rattle.std.specs.Prelude.{◌≢◌}
 use Rattle.sal_types.specs.declared.value.Value.{Value}
 use Rattle.sal_schema.specs.declared.table.SchemaTable.{SchemaTable}
 use Rattle.sal_schema.specs.Paths.{are_of_nodes}
 use Rattle.sal_schema.specs.Values.{all_below, is_of_node}
-
-fails_later : (a b : Bool) → b ≡ false → (a && b) ≡ false
-fails_later true b e = e
-fails_later false b e = refl
 
 module _ (test : ℕ → Bool) where
   pub all_below_none : all_below test 0 ≡ true
@@ -25,7 +21,7 @@ module _ (test : ℕ → Bool) where
   all_below_fails k zero low fails = absurd (omega arith)
   all_below_fails k (suc n) low fails =
       elim (cases_lt k n) [
-        | inl below ↦ fails_later (test n) (all_below test n) (all_below_fails k n below fails)
+        | inl below ↦ and_right (test n) (all_below test n) (all_below_fails k n below fails)
         | inr past ↦ let e : k ≡ n = omega arith in ap (λ b. b && all_below test n) (rw e at fails)
       ]
 
@@ -35,4 +31,4 @@ are_of_nodes-short table [] [] differ = absurd (differ refl)
 are_of_nodes-short table [] (value ∷ values) differ = refl
 are_of_nodes-short table (leaf ∷ leafs) [] differ = refl
 are_of_nodes-short table (leaf ∷ leafs) (value ∷ values) differ =
-    fails_later (is_of_node table leaf value) (are_of_nodes table leafs values) (are_of_nodes-short table leafs values (λ e. differ (ap suc e)))
+    and_right (is_of_node table leaf value) (are_of_nodes table leafs values) (are_of_nodes-short table leafs values (λ e. differ (ap suc e)))

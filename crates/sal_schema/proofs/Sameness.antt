@@ -1,5 +1,6 @@
 -- The tests of nodes, types and identities: two are the same.
 use Rattle.std.proofs.Common.{◌≡◌, ℕ, suc, ◌<◌, Bool, true, false, ◌&&◌, ◌==◌, nat_eq, IsTrue, ◌↔◌, List, [], ◌∷◌, length, take, Option, Some, None, refl, sym, ap, ◌∙◌, arith, Decides}
+use Rattle.std.proofs.lemmas.Bool.{and_right}
 use mathlib.Core.Bool.{beq}
 use Rattle.std.specs.List.{list_all}
 use Rattle.std.specs.Prelude.{◌≢◌}
@@ -243,20 +244,12 @@ pub members-short : (a b : List YangType) → length a ≢ length b → same_mem
 members-short [] [] differ = absurd (differ refl)
 members-short [] (y ∷ b) differ = refl
 members-short (x ∷ a) [] differ = refl
-members-short (x ∷ a) (y ∷ b) differ = later (same_plain x y) (same_members a b) (members-short a b (λ e. differ (ap suc e)))
-  where
-    later : (a b : Bool) → b ≡ false → (a && b) ≡ false
-    later true b e = e
-    later false b e = refl
+members-short (x ∷ a) (y ∷ b) differ = and_right (same_plain x y) (same_members a b) (members-short a b (λ e. differ (ap suc e)))
 
 pub begins-short : {X : Type 0} (same : X → X → Bool) (front xs : List X) → length xs < length front → begins same front xs ≡ false
 begins-short same [] xs h = absurd (omega arith)
 begins-short same (y ∷ front) [] h = refl
-begins-short same (y ∷ front) (x ∷ xs) h = later (same y x) (begins same front xs) (begins-short same front xs (omega arith))
-  where
-    later : (a b : Bool) → b ≡ false → (a && b) ≡ false
-    later true b e = e
-    later false b e = refl
+begins-short same (y ∷ front) (x ∷ xs) h = and_right (same y x) (begins same front xs) (begins-short same front xs (omega arith))
 
 abbrev any : {X : Type 0} → X → Bool
 any x = true

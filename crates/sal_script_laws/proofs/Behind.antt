@@ -3,7 +3,7 @@ use Rattle.std.proofs.Common.{◌≡◌, ℕ, suc, zero, Bool, false, List, [], 
 use Rattle.std.specs.Prelude.{nat_eq}
 use Rattle.std.specs.List.{list_any}
 use Rattle.std.proofs.lemmas.List.Folds.{list_any-append}
-use Rattle.std.proofs.lemmas.Bool.{or_from}
+use Rattle.std.proofs.lemmas.Bool.{or_from, or_parts}
 use Rattle.sal_types.specs.declared.value.Store.TheVariants.{Config}
 use Rattle.sal_types.specs.declared.value.Step.{Step}
 use Rattle.sal_types.specs.declared.value.Step.TheVariants.{Node}
@@ -14,7 +14,6 @@ use Rattle.sal_types.specs.Tree.{has}
 use Rattle.sal_rows.specs.Apply.{apply_ops, cell_after}
 use Rattle.sal_rows.specs.Commits.{tree_after}
 use Rattle.sal_rows.proofs.Applied.{cell-none}
-use Rattle.sal_rows.proofs.Untouched.{or_first, or_second}
 use Rattle.sal_script.specs.LoadExamples.{entry, rows}
 use Rattle.sal_script_laws.specs.Rounds.{HasNoList, IsAbsent, Round, commit_of, commits_of, has_key, put_of}
 use Rattle.sal_script_laws.proofs.Entries.{apart, not_list}
@@ -35,8 +34,8 @@ none-behind : (q : List Step → Bool) (t : Round → Bool) → ((round : Round)
 none-behind q t puts tree [] before none = before
 none-behind q t puts tree (round ∷ rounds) before none =
     none-behind q t puts (apply_ops tree Config (commit_of round)) rounds
-    (one-none q tree round.key round.value before (puts round (or_first (t round) (list_any t rounds) none)))
-    (or_second (t round) (list_any t rounds) none)
+    (one-none q tree round.key round.value before (puts round (or_parts (t round) (list_any t rounds) none).0))
+    (or_parts (t round) (list_any t rounds) none).1
 
 pub absent-behind : (tree : List Row) (rounds : List Round) (key : ℕ) → has tree (entry key) ≡ false → has_key rounds key ≡ false → has (tree_after Config tree (commits_of rounds)) (entry key) ≡ false
 absent-behind tree rounds key before none =
@@ -65,8 +64,8 @@ pub has_key-take : (k : ℕ) (rounds : List Round) (key : ℕ) → has_key round
 has_key-take zero rounds key none = refl
 has_key-take (suc k) [] key none = refl
 has_key-take (suc k) (round ∷ rounds) key none =
-    or_from (nat_eq round.key key) (has_key (take k rounds) key) (or_first (nat_eq round.key key) (has_key rounds key) none)
-    (has_key-take k rounds key (or_second (nat_eq round.key key) (has_key rounds key) none))
+    or_from (nat_eq round.key key) (has_key (take k rounds) key) (or_parts (nat_eq round.key key) (has_key rounds key) none).0
+    (has_key-take k rounds key (or_parts (nat_eq round.key key) (has_key rounds key) none).1)
 
 pub length-commits : (rounds : List Round) → length (commits_of rounds) ≡ length rounds
 length-commits [] = refl

@@ -1,5 +1,6 @@
 -- Rows set in a tree at free places are additional rows of it.
 use Rattle.std.proofs.Common.{◌≡◌, ℕ, ◌+◌, Bool, true, false, ◌||◌, List, [], ◌∷◌, length, Option, Some, None, refl, ap, ◌∙◌, arith, if◌then◌else◌}
+use Rattle.std.proofs.lemmas.Bool.{or_parts}
 use Rattle.std.specs.Prelude.{sum_by}
 use Rattle.std.specs.List.{list_any}
 use Rattle.std.specs.Option.{option_or}
@@ -14,15 +15,14 @@ use Rattle.sal_types.specs.Tree.{cell, IsAscending}
 use Rattle.sal_rows.specs.Apply.{set_cell, tree_of}
 use Rattle.sal_rows.specs.Edits.{set_row}
 use Rattle.sal_rows.proofs.Cells.{cell-set_row, IsAscending-set_row}
-use Rattle.sal_rows.proofs.Untouched.{or_first, or_second}
 
 -- ---- tests that no row passes
 
 none-set_row : (q : List Step → Bool) (tree : List Row) (row : Row) → q row.path ≡ false → list_any (λ x. q x.path) tree ≡ false → list_any (λ x. q x.path) (set_row tree row) ≡ false
 none-set_row q [] row out none = ap (λ b. b || false) out
 none-set_row q (x ∷ tree) row out none =
-    let here : q x.path ≡ false = or_first (q x.path) (list_any (λ y. q y.path) tree) none in
-    let rest : list_any (λ y. q y.path) tree ≡ false = or_second (q x.path) (list_any (λ y. q y.path) tree) none in
+    let here : q x.path ≡ false = (or_parts (q x.path) (list_any (λ y. q y.path) tree) none).0 in
+    let rest : list_any (λ y. q y.path) tree ≡ false = (or_parts (q x.path) (list_any (λ y. q y.path) tree) none).1 in
     elim (path_cmp row.path x.path) as (λ o. list_any (λ y. q y.path) (match_ordering o (row ∷ x ∷ tree) (row ∷ tree) (x ∷ set_row tree row)) ≡ false) [
       | Less ↦ rw (out, none) refl
       | Equal ↦ rw (out, rest) refl
@@ -36,8 +36,8 @@ none-set_cell q tree p (Some c) out none = none-set_row q tree (record { path = 
 pub none-tree_of : (q : List Step → Bool) (f : List Step → Option Cell) (rows : List Row) → list_any (λ x. q x.path) rows ≡ false → list_any (λ x. q x.path) (tree_of f rows) ≡ false
 none-tree_of q f [] none = refl
 none-tree_of q f (row ∷ rows) none =
-    none-set_cell q (tree_of f rows) row.path (f row.path) (or_first (q row.path) (list_any (λ x. q x.path) rows) none)
-    (none-tree_of q f rows (or_second (q row.path) (list_any (λ x. q x.path) rows) none))
+    none-set_cell q (tree_of f rows) row.path (f row.path) (or_parts (q row.path) (list_any (λ x. q x.path) rows) none).0
+    (none-tree_of q f rows (or_parts (q row.path) (list_any (λ x. q x.path) rows) none).1)
 
 -- ---- rows that are set, the last one first
 

@@ -1,12 +1,11 @@
 -- Keys and numbers of rounds, and their sums.
 use Rattle.std.proofs.Common.{◌≡◌, ℕ, zero, suc, ◌+◌, ◌*◌, false, List, [], ◌∷◌, ◌++◌, refl, ap, sym, ◌∙◌, arith}
 use Rattle.std.specs.Prelude.{not, nat_eq, sum_by}
-use Rattle.std.proofs.lemmas.Bool.{and_from, and_parts, eqb-false, ne_eqb, not_from_false, not-true, or_from}
+use Rattle.std.proofs.lemmas.Bool.{and_from, and_parts, eqb-false, ne_eqb, not_from_false, not-true, or_from, or_parts}
 use Rattle.std.proofs.lemmas.List.Folds.{list_any-append}
 use Rattle.std.proofs.lemmas.List.Sums.{sum_by_push}
 use Rattle.sal_rows.specs.Commits.{numbers_after}
 use Rattle.sal_rows.proofs.Numbers.{numbers_after-suc}
-use Rattle.sal_rows.proofs.Untouched.{or_first, or_second}
 use Rattle.sal_script_laws.specs.Rounds.{AreShort, KeysDiffer, Round, StayDistinct, SumGrows, SumsAreAll, are_distinct, has_key, sum_after}
 
 pub keys_differ : KeysDiffer
@@ -25,10 +24,10 @@ pub stay_distinct : StayDistinct
 stay_distinct [] round distinct new = refl
 stay_distinct (first ∷ rounds) round distinct new =
     let parts = and_parts (not (has_key rounds first.key)) (are_distinct rounds) distinct in
-    let other : nat_eq round.key first.key ≡ false = ne_eqb _ _ (λ same. eqb-false first.key round.key (or_first (nat_eq first.key round.key) (has_key rounds round.key) new) (sym same)) in
+    let other : nat_eq round.key first.key ≡ false = ne_eqb _ _ (λ same. eqb-false first.key round.key (or_parts (nat_eq first.key round.key) (has_key rounds round.key) new).0 (sym same)) in
     and_from (not (has_key (rounds ++ round ∷ []) first.key)) (are_distinct (rounds ++ round ∷ []))
     (not_from_false _ (has_key-push rounds round first.key (not-true _ parts.0) other))
-    (stay_distinct rounds round parts.1 (or_second (nat_eq first.key round.key) (has_key rounds round.key) new))
+    (stay_distinct rounds round parts.1 (or_parts (nat_eq first.key round.key) (has_key rounds round.key) new).1)
 
 pub sum_grows : SumGrows
 sum_grows rounds round = sum_by_push (λ one. one.value) rounds round

@@ -1,5 +1,6 @@
 -- The effect of one edit at each path: the cells, and which nodes get the stamp.
 use Rattle.std.proofs.Common.{◌≡◌, ℕ, Bool, true, false, List, [], ◌∷◌, ◌++◌, ◌&&◌, ◌||◌, Option, Some, None, refl, ap, sym, ◌∙◌, subst, if◌then◌else◌}
+use Rattle.std.proofs.lemmas.Bool.{or_parts}
 use Rattle.std.specs.Prelude.{T}
 use Rattle.std.specs.FinMap.{find}
 use Rattle.sal_types.specs.declared.value.Step.{Step}
@@ -156,19 +157,11 @@ Follows-cleared s t p h there = record {
     | false ↦ λ b. gone q n b (under_p q b e) stands
   ] refl;
   kept = λ q e. elim (is_prefix q p) as (λ b. is_prefix q p ≡ b → at (Some (root_of s (grow s (Some t) p None))) q ≡ at (Some t) q) [
-    | true ↦ λ b. let no = and_right (is_prefix q p) (present (at (Some t) p)) b (or_second (is_prefix p q && present (at (Some t) q)) (is_prefix q p && present (at (Some t) p)) e) in cc
+    | true ↦ λ b. let no = and_right (is_prefix q p) (present (at (Some t) p)) b (or_parts (is_prefix p q && present (at (Some t) q)) (is_prefix q p && present (at (Some t) p)) e).1 in cc
     | false ↦ λ b. beside q b e
   ] refl;
 }
   where
-    or_second : (a b : Bool) → (a || b) ≡ false → b ≡ false
-    or_second true b e = cc
-    or_second false b e = e
-
-    or_first : (a b : Bool) → (a || b) ≡ false → a ≡ false
-    or_first true b e = cc
-    or_first false b e = refl
-
     and_first : (a b c : Bool) → c ≡ false → ((a && b) || (c && present (at (Some t) p))) ≡ true → a ≡ true
     and_first true b c e f = refl
     and_first false b true e f = cc
@@ -185,7 +178,7 @@ Follows-cleared s t p h there = record {
     beside [] b e = cc
     beside (x ∷ q) b e = elim (is_prefix p (x ∷ q)) as (λ c. is_prefix p (x ∷ q) ≡ c → at (Some (root_of s (grow s (Some t) p None))) (x ∷ q) ≡ at (Some t) (x ∷ q)) [
       | true ↦ λ c.
-          let missing = and_right (is_prefix p (x ∷ q)) (present (at (Some t) (x ∷ q))) c (or_first (is_prefix p (x ∷ q) && present (at (Some t) (x ∷ q))) _ e) in
+          let missing = and_right (is_prefix p (x ∷ q)) (present (at (Some t) (x ∷ q))) c (or_parts (is_prefix p (x ∷ q) && present (at (Some t) (x ∷ q))) _ e).0 in
           cleared_below s t p x q h c ∙ sym (present-full (at (Some t) (x ∷ q)) (full-at (kid (Some t) x) q (full-kid (Some t) x h)) missing)
       | false ↦ λ c. at-root_of s _ x q ∙ at-beside s (Some t) p (x ∷ q) None h c b
     ] refl

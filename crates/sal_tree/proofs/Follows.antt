@@ -1,16 +1,9 @@
 -- Trees made one after another, and what follows from their stamps.
 use Rattle.std.proofs.Common.{◌≡◌, ℕ, Bool, true, false, List, ◌||◌, Some, refl, sym, ◌∙◌}
+use Rattle.std.proofs.lemmas.Bool.{or_parts}
 use Rattle.sal_types.specs.declared.value.Step.{Step}
 use Rattle.sal_node.specs.Tree.{Tree}
 use Rattle.sal_tree.specs.Follows.{Follows, HasNo, Agree}
-
-pub or_left : (a b : Bool) → (a || b) ≡ false → a ≡ false
-or_left true b e = cc
-or_left false b e = refl
-
-pub or_right : (a b : Bool) → (a || b) ≡ false → b ≡ false
-or_right true b e = cc
-or_right false b e = e
 
 pub some_same : (a b : Tree) → Some a ≡ Some b → a ≡ b
 some_same a b e = cc
@@ -22,7 +15,7 @@ Follows-then P a b t u v f g = record {
         | true ↦ λ e _. g.stamped p n e stands
         | false ↦ λ e h. f.stamped p n (or_no (a p) h) (sym (g.kept p e) ∙ stands)
       ] refl touched;
-  kept = λ p untouched. g.kept p (or_right (a p) (b p) untouched) ∙ f.kept p (or_left (a p) (b p) untouched);
+  kept = λ p untouched. g.kept p (or_parts (a p) (b p) untouched).1 ∙ f.kept p (or_parts (a p) (b p) untouched).0;
 }
   where
     or_no : (x : Bool) → (x || false) ≡ true → x ≡ true

@@ -1,5 +1,6 @@
 -- What follows from stamps over commits made one after another.
 use Rattle.std.proofs.Common.{◌≡◌, ◌≢◌, inl, ℕ, true, false, List, [], ◌∷◌, ◌||◌, Some, refl, ap, sym, ◌∙◌, subst, if◌then◌else◌}
+use Rattle.std.proofs.lemmas.Bool.{or_parts}
 use Rattle.sal_types.specs.declared.value.Step.{Step}
 use Rattle.sal_types.specs.declared.value.Store.{Store}
 use Rattle.sal_node.specs.Tree.{Tree}
@@ -7,7 +8,7 @@ use Rattle.sal_rows.specs.Touch.{touches}
 use Rattle.sal_tree.specs.Grow.{at}
 use Rattle.sal_tree.specs.Rows.{rows_of}
 use Rattle.sal_tree.specs.History.{IsOneOf, Done, IsHistory, newest, last_stamps, is_touched, IsFresh}
-use Rattle.sal_tree.proofs.Follows.{or_left, or_right, some_same}
+use Rattle.sal_tree.proofs.Follows.{some_same}
 
 -- A node has a stamp of the last commit that touched its path, or one of those before the first commit.
 pub stamp-last : (s : Store) (before : List ℕ) (t : Tree) (ds : List Done) (p : List Step) → IsHistory s t ds → ((n : Tree) → at (Some t) p ≡ Some n → IsOneOf before n.stamp) → (n : Tree) → at (Some (newest t ds)) p ≡ Some n → IsOneOf (last_stamps s before t ds p) n.stamp
@@ -21,7 +22,7 @@ stamp-last s before t (d ∷ ds) p h was = stamp-last s (if touches (rows_of t) 
 -- A node that no commit touched is the same.
 pub untouched-same : (s : Store) (t : Tree) (ds : List Done) (p : List Step) → IsHistory s t ds → is_touched s t ds p ≡ false → at (Some (newest t ds)) p ≡ at (Some t) p
 untouched-same s t [] p h e = refl
-untouched-same s t (d ∷ ds) p h e = untouched-same s d.tree ds p h.1 (or_right (touches (rows_of t) s d.ops p) _ e) ∙ h.0.kept p (or_left _ (is_touched s d.tree ds p) e)
+untouched-same s t (d ∷ ds) p h e = untouched-same s d.tree ds p h.1 (or_parts (touches (rows_of t) s d.ops p) _ e).1 ∙ h.0.kept p (or_parts _ (is_touched s d.tree ds p) e).0
 
 -- A node that a commit touched has the stamp of one of the commits.
 last-fresh : (s : Store) (stamp : ℕ) (before : List ℕ) (t : Tree) (ds : List Done) (p : List Step) → ¬ (IsOneOf before stamp) → IsFresh stamp ds → ¬ (IsOneOf (last_stamps s before t ds p) stamp)

@@ -1,5 +1,6 @@
 -- A tree with a node built from rows in place of the one at a path.
 use Rattle.std.proofs.Common.{◌≡◌, ℕ, ◌<◌, ◌≤◌, Bool, true, false, List, [], ◌∷◌, ◌++◌, ◌&&◌, ◌||◌, length, drop, Some, None, refl, ap, sym, ◌∙◌, subst, if◌then◌else◌, append_assoc, arith}
+use Rattle.std.proofs.lemmas.Bool.{or_parts, and_parts}
 use Rattle.std.specs.List.{list_all}
 use Rattle.std.specs.Ordering.{is_eq, ordering_then}
 use Rattle.std.specs.declared.cmp.Ordering.TheVariants.{Less, Equal, Greater}
@@ -24,7 +25,7 @@ use Rattle.sal_tree.specs.Built.{IsBuilt}
 use Rattle.sal_tree.specs.Whole.{IsWhole}
 use Rattle.sal_tree.proofs.Laws.{eq, self_tie, IsFull, at-append, at-end, at-beside, full-grow, full-kid, sound-full, is_prefix-self}
 use Rattle.sal_tree.proofs.Cells.{cell-rows_of, ascending-rows_of, has-rows_of}
-use Rattle.sal_tree.proofs.Follows.{Follows-by, or_left, or_right}
+use Rattle.sal_tree.proofs.Follows.{Follows-by}
 use Rattle.sal_tree.proofs.Edited.{at-root_of, stamped-grown, clears, present-full, full-at, sound-root_of}
 use Rattle.sal_tree.proofs.Listed.{cell-root_of, cell-above}
 use Rattle.sal_tree.proofs.Touches.{both_begin, clears-any, set_by_put}
@@ -53,14 +54,6 @@ drop_front (x ∷ p) w = drop_front p w
 abbrev AllUnder : List Step → List Row → Type 0
 AllUnder p rows = list_all (λ row. is_prefix p row.path) rows ≡ true
 
-and_first : (a b : Bool) → (a && b) ≡ true → a ≡ true
-and_first true b e = refl
-and_first false b e = e
-
-and_second : (a b : Bool) → (a && b) ≡ true → b ≡ true
-and_second true b e = e
-and_second false b e = cc
-
 -- the rest of a path after a prefix
 rest_of : (p r : List Step) → is_prefix p r ≡ true → r ≡ p ++ drop (length p) r
 rest_of p r e = let w = IsPrefix-from_test p r e in w.1 ∙ ap (λ v. p ++ v) (sym (drop_front p w.0) ∙ ap (drop (length p)) (sym w.1))
@@ -69,31 +62,31 @@ rest_of p r e = let w = IsPrefix-from_test p r e in w.1 ∙ ap (λ v. p ++ v) (s
 cell-behind : (p w : List Step) (rows : List Row) → AllUnder p rows → cell rows (p ++ w) ≡ cell (from_depth (length p) rows) w
 cell-behind p w [] h = refl
 cell-behind p w (row ∷ rows) h =
-    (λ i. if path_eq (p ++ w) (rest_of p row.path (and_first _ _ h) i) then Some row.cell else cell-behind p w rows (and_second (is_prefix p row.path) _ h) i)
+    (λ i. if path_eq (p ++ w) (rest_of p row.path (and_parts _ _ h).0 i) then Some row.cell else cell-behind p w rows (and_parts (is_prefix p row.path) _ h).1 i)
     ∙ ap (λ b. if b then Some row.cell else cell (from_depth (length p) rows) w) (eq_behind p w (drop (length p) row.path))
 
 has-behind : (p w : List Step) (rows : List Row) → AllUnder p rows → has rows (p ++ w) ≡ has (from_depth (length p) rows) w
 has-behind p w [] h = refl
 has-behind p w (row ∷ rows) h =
-    (λ i. is_prefix (p ++ w) (rest_of p row.path (and_first _ _ h) i) || has-behind p w rows (and_second (is_prefix p row.path) _ h) i)
+    (λ i. is_prefix (p ++ w) (rest_of p row.path (and_parts _ _ h).0 i) || has-behind p w rows (and_parts (is_prefix p row.path) _ h).1 i)
     ∙ ap (λ b. b || has (from_depth (length p) rows) w) (prefix_behind p w (drop (length p) row.path))
 
 -- no row is at or below a path that is neither prefix nor extension of this one, and each prefix of it has a row below
 beside-rows : (p q : List Step) (rows : List Row) → AllUnder p rows → is_prefix p q ≡ false → is_prefix q p ≡ false → has rows q ≡ false
 beside-rows p q [] h a b = refl
-beside-rows p q (row ∷ rows) h a b = (λ i. none (is_prefix q row.path) refl i || beside-rows p q rows (and_second (is_prefix p row.path) _ h) a b i)
+beside-rows p q (row ∷ rows) h a b = (λ i. none (is_prefix q row.path) refl i || beside-rows p q rows (and_parts (is_prefix p row.path) _ h).1 a b i)
   where
     none : (c : Bool) → is_prefix q row.path ≡ c → c ≡ false
     none false e = refl
     none true e =
-        let two : (is_prefix q row.path && is_prefix p row.path) ≡ true = (λ i. e i && and_first (is_prefix p row.path) _ h i) in
+        let two : (is_prefix q row.path && is_prefix p row.path) ≡ true = (λ i. e i && (and_parts (is_prefix p row.path) _ h).0 i) in
         let no : ((is_prefix p q && is_prefix q row.path) || (is_prefix q p && is_prefix p row.path)) ≡ false = (λ i. (a i && is_prefix q row.path) || (b i && is_prefix p row.path)) in
         let both = both_begin p q row.path in cc
 
 above-rows : (p q : List Step) (row : Row) (rows : List Row) → AllUnder p (row ∷ rows) → is_prefix q p ≡ true → has (row ∷ rows) q ≡ true
 above-rows p q row rows h e =
     let v = IsPrefix-from_test q p e in
-    let w = IsPrefix-from_test p row.path (and_first _ _ h) in
+    let w = IsPrefix-from_test p row.path (and_parts _ _ h).0 in
     ap (λ b. b || has rows q) (ap (is_prefix q) (w.1 ∙ ap (λ r. r ++ w.0) v.1 ∙ append_assoc q v.0 w.0) ∙ is_prefix-append q (v.0 ++ w.0))
 
 module _ (s : ℕ) (t : Tree) (p : List Step) (row : Row) (rest : List Row) (b : Tree) (h : IsGrove t.kids) (lie : under (row ∷ rest) p ≡ row ∷ rest) (built : IsBuilt s (length p) (from_depth (length p) (row ∷ rest)) b) where
@@ -169,11 +162,11 @@ module _ (s : ℕ) (t : Tree) (p : List Step) (row : Row) (rest : List Row) (b :
 
   kept_at : (q : List Step) → (has (row ∷ rest) q || clears p t q) ≡ false → at (Some (root_of s (grow s (Some t) p (Some b)))) q ≡ at (Some t) q
   kept_at q e = elim (is_prefix q p) as (λ a. is_prefix q p ≡ a → at (Some (root_of s (grow s (Some t) p (Some b)))) q ≡ at (Some t) q) [
-    | true ↦ λ a. let yes = above-rows p q row rest all_under a in let no = or_left (has (row ∷ rest) q) (clears p t q) e in cc
+    | true ↦ λ a. let yes = above-rows p q row rest all_under a in let no = (or_parts (has (row ∷ rest) q) (clears p t q) e).0 in cc
     | false ↦ λ a. elim (is_prefix p q) as (λ c. is_prefix p q ≡ c → at (Some (root_of s (grow s (Some t) p (Some b)))) q ≡ at (Some t) q) [
       | true ↦ λ c.
-          let gone = and_right (is_prefix p q) (present (at (Some t) q)) c (or_left (is_prefix p q && present (at (Some t) q)) _ (or_right (has (row ∷ rest) q) (clears p t q) e)) in
-          at-under q c ∙ none_built q c (or_left (has (row ∷ rest) q) (clears p t q) e) ∙ sym (none_before q a gone)
+          let gone = and_right (is_prefix p q) (present (at (Some t) q)) c (or_parts (is_prefix p q && present (at (Some t) q)) _ (or_parts (has (row ∷ rest) q) (clears p t q) e).1).0 in
+          at-under q c ∙ none_built q c (or_parts (has (row ∷ rest) q) (clears p t q) e).0 ∙ sym (none_before q a gone)
       | false ↦ λ c. beside q a c
     ] refl
   ] refl
@@ -205,7 +198,7 @@ put-built s t p steps (row ∷ rest) b v h l same some lie built is =
 -- rows at a path and below it that rise, rise from there on
 from_path-behind : (p : List Step) (rows : List Row) → AllUnder p rows → rows ≡ from_path p (from_depth (length p) rows)
 from_path-behind p [] h = refl
-from_path-behind p (row ∷ rows) h = λ i. record { path = rest_of p row.path (and_first _ _ h) i; cell = row.cell } ∷ from_path-behind p rows (and_second (is_prefix p row.path) _ h) i
+from_path-behind p (row ∷ rows) h = λ i. record { path = rest_of p row.path (and_parts _ _ h).0 i; cell = row.cell } ∷ from_path-behind p rows (and_parts (is_prefix p row.path) _ h).1 i
 
 rising-unpath : (p : List Step) (rows : List Row) → Rising (from_path p rows) → Rising rows
 rising-unpath [] rows h = subst Rising (from_path-root rows) h

@@ -1,5 +1,6 @@
 -- An edit stamps exactly the paths that its operation touches.
 use Rattle.std.proofs.Common.{◌≡◌, ℕ, Bool, true, false, List, [], ◌∷◌, ◌&&◌, ◌||◌, Option, Some, None, refl, ap, sym, ◌∙◌, if◌then◌else◌}
+use Rattle.std.proofs.lemmas.Bool.{and_parts}
 use Rattle.std.specs.Prelude.{is_some}
 use Rattle.std.specs.List.{list_any}
 use Rattle.std.specs.Option.{option_map}
@@ -100,14 +101,10 @@ set_by_put false c = refl
 merged : (rows : List Row) (q r : List Step) → (is_prefix q r && is_some (option_map Some (cell rows r))) ≡ true → has rows q ≡ true
 merged [] q r e = let no = and_no (is_prefix q r) in cc
 merged (row ∷ rows) q r e = elim (path_eq r row.path) as (λ b. path_eq r row.path ≡ b → (is_prefix q r && is_some (option_map Some (if b then Some row.cell else cell rows r))) ≡ true → (is_prefix q row.path || has rows q) ≡ true) [
-  | true ↦ λ b f. ap (λ c. c || has rows q) (ap (is_prefix q) (sym (same_path r row.path b)) ∙ and_first (is_prefix q r) true f)
+  | true ↦ λ b f. ap (λ c. c || has rows q) (ap (is_prefix q) (sym (same_path r row.path b)) ∙ (and_parts (is_prefix q r) true f).0)
   | false ↦ λ b f. ap (λ c. is_prefix q row.path || c) (merged rows q r f) ∙ or_true (is_prefix q row.path)
 ] refl e
   where
-    and_first : (a b : Bool) → (a && b) ≡ true → a ≡ true
-    and_first true b e = refl
-    and_first false b e = e
-
     or_true : (a : Bool) → (a || true) ≡ true
     or_true true = refl
     or_true false = refl

@@ -1,5 +1,6 @@
 -- One operation more.
 use Rattle.std.proofs.Common.{◌≡◌, ℕ, zero, suc, ◌<◌, length, get_or, arith, Bool, true, false, ◌&&◌, IsTrue, List, [], ◌∷◌, ◌++◌, None, sym, refl, ap, subst, ◌∙◌}
+use Rattle.std.proofs.lemmas.Bool.{and_parts}
 use Rattle.std.proofs.lemmas.List.{append_assoc, append-nil}
 use Rattle.std.proofs.lemmas.List.Folds.{list_any-append}
 use Rattle.std.specs.Prelude.{◌||◌, not, if◌then◌else◌, Option, Some, IfSome, Result, Ok, Err, OnOk, OnErr}
@@ -116,20 +117,12 @@ AreLawful-more table base earlier (o ∷ ops) op lawful may = (
 
 -- ---- rows that fit are under their path
 
-and_left : (a b : Bool) → (a && b) ≡ true → a ≡ true
-and_left true b h = refl
-and_left false b h = h
-
-and_right : (a b : Bool) → (a && b) ≡ true → b ≡ true
-and_right true b h = h
-and_right false b h = cc
-
 all_lie : (table : SchemaTable) (p : List Step) (all rows : List Row) → list_all (row_fits table p all) rows ≡ true → list_all (λ (row : Row). is_prefix p row.path) rows ≡ true
 all_lie table p all [] h = refl
 all_lie table p all (row ∷ rows) h =
-    let here = and_left (row_fits table p all row) (list_all (row_fits table p all) rows) h in
-    let lies : is_prefix p row.path ≡ true = and_right (fits_path table row.path) (is_prefix p row.path) (and_left _ _ (and_left _ _ here)) in
-    ap (λ b. b && list_all (λ (r : Row). is_prefix p r.path) rows) lies ∙ all_lie table p all rows (and_right (row_fits table p all row) _ h)
+    let here = (and_parts (row_fits table p all row) (list_all (row_fits table p all) rows) h).0 in
+    let lies : is_prefix p row.path ≡ true = (and_parts (fits_path table row.path) (is_prefix p row.path) (and_parts _ _ (and_parts _ _ here).0).0).1 in
+    ap (λ b. b && list_all (λ (r : Row). is_prefix p r.path) rows) lies ∙ all_lie table p all rows (and_parts (row_fits table p all row) _ h).1
 
 pub lie_under : (table : SchemaTable) (p : List Step) (rows : List Row) → IsTrue (fits table p rows) → under rows p ≡ rows
 lie_under table p rows h = filter-all (λ (row : Row). is_prefix p row.path) rows (all_lie table p rows rows h)

@@ -6,7 +6,7 @@ use Rattle.std.specs.List.{flat_map}
 use Rattle.std.specs.Option.{option_to_list}
 use Rattle.std.specs.Ordering.{int_eq}
 use Rattle.std.specs.Cmp.{signed_Decides}
-use Rattle.std.proofs.lemmas.Bool.{cases_Bool, cases_lt}
+use Rattle.std.proofs.lemmas.Bool.{cases_Bool, cases_lt, and_parts}
 use Rattle.std.proofs.lemmas.Bool.Decides.{nat_tests}
 use Rattle.std.proofs.lemmas.Int.{ints, fold-int_max_bounds}
 use Rattle.std.proofs.lemmas.List.{get_or_append_left, get_or-append_right, length-append}
@@ -25,7 +25,7 @@ use Rattle.sal_typedefs.specs.declared.entry.Numbering.TheVariants.{Enums}
 use Rattle.sal_typedefs.specs.Entries.{item_of, has_form, integer, text_of, stated, is_malformed, has_name, has_number, greatest, next, number_of, is_bad, entry_of, entries_of, entry_faults}
 use Rattle.sal_typedefs.specs.Restrictions.{Base, Layer, HasPlaces, numbering_of, choices, faults_by}
 use Rattle.sal_typedefs.specs.Types.{entries_in}
-use Rattle.sal_typedefs.proofs.PositionLists.{no-or, yes-and, yes-not, none-least}
+use Rattle.sal_typedefs.proofs.PositionLists.{no-or, yes-not, none-least}
 
 -- ---- one name
 
@@ -45,7 +45,7 @@ negative-number (suc d) e = let few : suc d ≤ 2147483648 = grind (arith, nat_t
 
 written-number : (t : List ℕ) → has_form Enums t ≡ true → negsuc 2147483647 ≤ℤ integer t
 written-number t e = elim (cases_Bool (first t == 45)) [
-  | inl minus ↦ let form = rw minus at e in rw minus (negative-number (decimal (drop 1 t)) (yes-and (is_whole (drop 1 t)) (nat_le (decimal (drop 1 t)) 2147483648) form).1)
+  | inl minus ↦ let form = rw minus at e in rw minus (negative-number (decimal (drop 1 t)) (and_parts (is_whole (drop 1 t)) (nat_le (decimal (drop 1 t)) 2147483648) form).1)
   | inr plus ↦ rw plus (omega (arith, ints))
 ]
 

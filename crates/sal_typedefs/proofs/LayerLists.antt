@@ -2,7 +2,7 @@
 use Rattle.std.proofs.Common.{◌≡◌, ℕ, ◌≤◌, List, [], ◌∷◌, ◌++◌, length, filter, Bool, true, false, not, ◌&&◌, ◌||◌, ◌==◌, nat_le, None, is_some, option_map, unwrap_or, if◌then◌else◌, refl, ◌∙◌, sym, ap, inl, inr, arith}
 use Rattle.std.specs.Prelude.{find}
 use Rattle.std.specs.List.{flat_map, list_any}
-use Rattle.std.proofs.lemmas.Bool.{cases_Bool}
+use Rattle.std.proofs.lemmas.Bool.{cases_Bool, and_parts}
 use Rattle.std.proofs.lemmas.Bool.Decides.{nat_tests}
 use Rattle.sal_stmt.specs.declared.stmt.Stmt.{Stmt}
 use Rattle.sal_module.specs.declared.keyword.Keyword.TheVariants as word
@@ -21,10 +21,6 @@ use Rattle.sal_typedefs.proofs.LeastLists.{some-faulty}
 
 -- ---- no names
 
-pub and-right : (a b : Bool) → (a && b) ≡ true → b ≡ true
-and-right true b e = e
-and-right false b e = cc
-
 pub none-named : {X : Type 0} (p : X → Bool) (xs : List X) → not (list_any p xs) ≡ true → filter p xs ≡ []
 none-named p [] e = refl
 none-named p (x ∷ xs) e = elim (cases_Bool (p x)) [ inl t ↦ (let h = rw t at e in cc) | inr n ↦ (let h = rw n at e in rw n (none-named p xs h)) ]
@@ -36,7 +32,7 @@ front-none [] b e = (refl, e)
 front-none (x ∷ a) b e = absurd (omega (arith, e))
 
 good-digits : (t : List ℕ) → are_fraction_digits t ≡ true → decimal t ≤ 18
-good-digits t e = let h = and-right (is_whole t) _ e in let k = and-right _ (nat_le (decimal t) 18) h in grind (arith, nat_tests)
+good-digits t e = let h = (and_parts (is_whole t) _ e).1 in let k = (and_parts _ (nat_le (decimal t) 18) h).1 in grind (arith, nat_tests)
 
 sub-digits : (m : ℕ) (sub : Stmt) → is_named word.FractionDigits sub ≡ true → length (digit_fault m sub) ≡ 0 → are_fraction_digits (argument_of sub) ≡ true
 sub-digits m sub e h = elim (cases_Bool (are_fraction_digits (argument_of sub))) [ inl t ↦ t | inr n ↦ (let k = rw (e, n) at h in absurd (omega (arith, k))) ]

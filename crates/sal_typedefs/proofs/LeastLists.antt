@@ -1,7 +1,7 @@
 -- The least fault of several lists.
 use Rattle.std.proofs.Common.{◌≡◌, ℕ, zero, suc, ◌+◌, ◌<◌, List, [], ◌∷◌, ◌++◌, length, take, get_or, Bool, true, false, not, ◌&&◌, ◌||◌, ◌==◌, nat_lt, Option, Some, None, is_some, option_map, unwrap_or, map, if◌then◌else◌, refl, ◌∙◌, sym, ap, inl, inr, arith, append_assoc, append-nil}
 use Rattle.std.specs.List.{flat_map, list_any}
-use Rattle.std.proofs.lemmas.Bool.{cases_Bool}
+use Rattle.std.proofs.lemmas.Bool.{cases_Bool, or_parts}
 use Rattle.std.proofs.lemmas.Bool.Decides.{nat_tests}
 use Rattle.std.proofs.lemmas.List.{take_more}
 use Rattle.sal_module.specs.declared.fault.Found.{Found}
@@ -151,10 +151,6 @@ stays-some (Some x) xs h none = none-some (least (Some x) xs) (least-some x xs) 
 
 -- ---- good statements below
 
-pub no-or : (a b : Bool) → (a || b) ≡ false → (a ≡ false) × (b ≡ false)
-no-or true b e = cc
-no-or false b e = (refl, e)
-
 pub good-fault : (j : Judged) → is_faulty j ≡ false → least None j.faults ≡ None
 good-fault j e = go j.faults e
   where
@@ -165,7 +161,7 @@ good-fault j e = go j.faults e
 pub good-types : (ds : List Judgement) (js : List Judged) → AreJudged ds js → list_any is_faulty js ≡ false → map (λ (d : Judgement). d.ty) ds ≡ map (λ (j : Judged). j.type) js
 good-types [] [] are good = refl
 good-types (d ∷ ds) (j ∷ js) are good =
-    let parts = no-or (is_faulty j) (list_any is_faulty js) good in
+    let parts = or_parts (is_faulty j) (list_any is_faulty js) good in
     let here : d.ty ≡ j.type = are.0.type (are.0.fault ∙ good-fault j parts.0) in
     ap (λ t. t ∷ map (λ (d : Judgement). d.ty) ds) here ∙ ap (λ ts. j.type ∷ ts) (good-types ds js are.1 parts.1)
 good-types [] (j ∷ js) are good = absurd are
@@ -177,7 +173,7 @@ pub base-same : (b : Option Builtin) (ds : List Judgement) (js : List Judged) �
 base-same (Some builtin) ds js are good = refl
 base-same None [] [] are good = refl
 base-same None (d ∷ ds) (j ∷ js) are good =
-    let parts = no-or (is_faulty j) (list_any is_faulty js) good in
+    let parts = or_parts (is_faulty j) (list_any is_faulty js) good in
     let none = are.0.fault ∙ good-fault j parts.0 in
     ap (λ t. record { type = t; entries = d.entries.items; itself = false }) (are.0.type none) ∙ ap (λ es. record { type = j.type; entries = es; itself = false }) (are.0.entries none)
 base-same None [] (j ∷ js) are good = absurd are

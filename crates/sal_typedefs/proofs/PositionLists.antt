@@ -1,10 +1,10 @@
 -- Positions of bits: without faults they are from 0 to 63.
-use Rattle.std.proofs.Common.{◌≡◌, ℕ, ℤ, pos, ◌≤ℤ◌, List, [], ◌∷◌, ◌++◌, map, fold, Bool, true, false, not, ◌&&◌, ◌||◌, ◌==◌, nat_le, Option, Some, None, is_some, unwrap_or, refl, ◌∙◌, sym, inl, inr, arith, append-nil}
+use Rattle.std.proofs.Common.{◌≡◌, ℕ, ℤ, pos, ◌≤ℤ◌, List, [], ◌∷◌, ◌++◌, map, fold, Bool, true, false, not, ◌||◌, ◌==◌, nat_le, Option, Some, None, is_some, unwrap_or, refl, ◌∙◌, sym, inl, inr, arith, append-nil}
 use Rattle.std.specs.Prelude.{All, int_lt}
 use Rattle.std.specs.Int.{int_max}
 use Rattle.std.specs.List.{flat_map}
 use Rattle.std.specs.Option.{option_to_list}
-use Rattle.std.proofs.lemmas.Bool.{cases_Bool}
+use Rattle.std.proofs.lemmas.Bool.{cases_Bool, or_parts, and_parts}
 use Rattle.std.proofs.lemmas.Bool.Decides.{nat_tests}
 use Rattle.std.proofs.lemmas.Int.{ints, fold-int_max_bounds}
 use Rattle.std.proofs.lemmas.List.Elements.{All-nil, All-head, All-tail, All-push}
@@ -27,10 +27,6 @@ pub use Rattle.sal_typedefs.proofs.LeastLists.{no-or}
 
 -- ---- one name
 
-pub yes-and : (a b : Bool) → (a && b) ≡ true → (a ≡ true) × (b ≡ true)
-yes-and true b e = (refl, e)
-yes-and false b e = cc
-
 pub yes-not : (b : Bool) → not b ≡ false → b ≡ true
 yes-not true e = refl
 yes-not false e = cc
@@ -48,7 +44,7 @@ no-minus [] e = cc
 no-minus (c ∷ t) e = grind (arith, nat_tests)
 
 written-positive : (t : List ℕ) → has_form Bits t ≡ true → pos 0 ≤ℤ integer t
-written-positive t e = let plus = no-minus t (yes-and (is_whole t) (nat_le (decimal t) 63) e).0 in rw plus (omega (arith, ints))
+written-positive t e = let plus = no-minus t (and_parts (is_whole t) (nat_le (decimal t) 63) e).0 in rw plus (omega (arith, ints))
 
 stated-positive : (text : Option (List ℕ)) (next : ℤ) → pos 0 ≤ℤ next → is_malformed Bits text ≡ false → pos 0 ≤ℤ unwrap_or (stated Bits text) next
 stated-positive None next h e = h
@@ -61,8 +57,8 @@ own-position : (before : List Entry) (stmt : Stmt) → All IsPosition before →
 own-position before stmt all good =
     let name = argument_of stmt in
     let number = number_of Bits before stmt in
-    let parts = no-or ((has_name name before || has_number number before) || int_lt (greatest Bits) number) (is_malformed Bits (text_of Bits stmt)) good in
-    let less = no-or (has_name name before || has_number number before) (int_lt (greatest Bits) number) parts.0 in
+    let parts = or_parts ((has_name name before || has_number number before) || int_lt (greatest Bits) number) (is_malformed Bits (text_of Bits stmt)) good in
+    let less = or_parts (has_name name before || has_number number before) (int_lt (greatest Bits) number) parts.0 in
     (stated-positive (text_of Bits stmt) (next before) (next-positive before all) parts.1, not-greater number less.1)
 
 named-position : (name : List ℕ) (from : List Entry) (d : Entry) → All IsPosition from → IsPosition d → IsPosition (unwrap_or (named name from) d)

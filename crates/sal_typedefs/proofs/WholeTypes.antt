@@ -1,5 +1,5 @@
 -- Type statements without substatements have no faults, and denote the built-in type.
-use Rattle.std.proofs.Common.{◌≡◌, ◌∙◌, ℕ, zero, suc, List, [], ◌∷◌, ◌++◌, Bool, true, false, ◌&&◌, ◌==◌, length, Some, map, filter, find, option_map, unwrap_or, if◌then◌else◌, codes, nat_eq, refl, sym, ap, inl, inr, arith}
+use Rattle.std.proofs.Common.{◌≡◌, ◌∙◌, ℕ, zero, suc, List, [], ◌∷◌, ◌++◌, Bool, true, false, ◌&&◌, ◌==◌, length, Some, map, filter, find, option_map, unwrap_or, if◌then◌else◌, codes, refl, sym, ap, inl, inr, arith}
 use Rattle.std.specs.List.{flat_map, list_any}
 use Rattle.std.specs.Prelude.{is_none}
 use Rattle.std.proofs.lemmas.Bool.{cases_Bool}
@@ -10,6 +10,7 @@ use Rattle.sal_module.specs.declared.keyword.Keyword.TheVariants as word
 use Rattle.sal_module.specs.Keywords.{same}
 use Rattle.sal_module.specs.Profile.{at_stmt}
 use Rattle.sal_module.specs.Statements.{is_named, subs_of, argument_of, value_of, all_named}
+use Rattle.sal_module.proofs.Initials.{same-text}
 use Rattle.sal_restrict.specs.declared.yang_type.YangType.{roll-YangType}
 use Rattle.sal_restrict.specs.declared.yang_type.YangType.TheViews.{out-roll-YangType}
 use Rattle.sal_typedefs.specs.declared.builtin.Builtin.{Builtin}
@@ -24,17 +25,6 @@ use Rattle.sal_typedefs.specs.Whole.{Names, is_whole}
 pub empty-list : {X : Type 0} (xs : List X) → (length xs == 0) ≡ true → xs ≡ []
 empty-list [] e = refl
 empty-list (x ∷ xs) e = absurd (let zero : length (x ∷ xs) ≡ 0 = grind (arith, nat_tests) in omega (arith, zero))
-
-same-text : (a b : List ℕ) → same a b ≡ true → a ≡ b
-same-text [] [] e = refl
-same-text [] (y ∷ b) e = cc
-same-text (x ∷ a) [] e = cc
-same-text (x ∷ a) (y ∷ b) e = elim (cases_Bool (nat_eq x y)) [
-  | inl t ↦
-      let is : x ≡ y = grind (arith, nat_tests) in
-      let rest = rw t at e in λ i. is i ∷ same-text a b rest i
-  | inr f ↦ let no = rw f at e in absurd (let wrong : false ≡ true = no in cc)
-]
 
 either : {X : Type 0} (b : Bool) (xs : List X) → xs ≡ [] → (if b then xs else []) ≡ []
 either true xs e = e

@@ -157,7 +157,7 @@ fn run<R: Threads + Wait + Sync>(
     let one = owners.split(&mut opening, 1);
     let two = owners.split(&mut opening, 2);
     let (mut one, two, good) = both(rt, alloc, &owners, one, two);
-    let came = come(rt, alloc, &owners, &mut one).is_ok();
+    let came = move_by(rt, alloc, &owners, &mut one, true).is_ok();
     let up = is_up(rt, alloc, &owners, &mut opening, &mut copy);
     let seat = owners.join(opening, one);
     let seat = owners.join(seat, two);

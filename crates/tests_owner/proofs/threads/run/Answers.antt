@@ -12,11 +12,11 @@ close-requires-clause-joined g c =
     let one = c.split-one.ensures in
     let two = c.split-two.ensures in
     let up = c.is_up-up.ensures.1 in
-    let came = c.come.ensures.1 in
+    let came = c.move_by.ensures.1 in
     let first = c.both-one.ensures.one.1 in
     let second = c.both-one.ensures.two.1 in
     subst (λ (v : SeatView). (k : ℕ) → In k v.given → AnswersFor v k) (sym (c.join-seat-2.ensures.joined.1 ∙ ap (λ (v : SeatView). both v c.both-one.result.1.view) c.join-seat.ensures.joined.1))
-    (opening_joined 65535 1 2 c.is_up-up.new.seat.view c.come.new.seat.view c.both-one.result.1.view
+    (opening_joined 65535 1 2 c.is_up-up.new.seat.view c.move_by.new.seat.view c.both-one.result.1.view
     (up.0 ∙ ap (λ (v : SeatView). v.number) two.giver.1 ∙ ap (λ (v : SeatView). v.number) one.giver.1 ∙ watched.0 ∙ ap (λ (v : SeatView). v.number) opened)
     (came.0 ∙ first.0 ∙ ap (λ (v : SeatView). v.number) one.new.1)
     (second.0 ∙ ap (λ (v : SeatView). v.number) two.new.1)

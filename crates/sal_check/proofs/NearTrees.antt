@@ -1,6 +1,6 @@
 -- The walk over two trees finds the breaches of the later one, where the earlier one has none and is kept but for new stamps.
 use Rattle.std.proofs.Common.{◌≡◌, ℕ, Bool, true, false, cond, ◌&&◌, ◌||◌, List, [], ◌∷◌, ◌++◌, inl, inr, Option, Some, None, refl, sym, ap, subst, ◌∙◌, length, map}
-use Rattle.std.proofs.lemmas.Bool.{and_parts, or_parts}
+use Rattle.std.proofs.lemmas.Bool.{and_parts, or_parts, or_right}
 use Rattle.std.specs.Prelude.{◌==◌, nat_le, nat_lt, if◌then◌else◌}
 use Rattle.std.specs.List.{fold, flat_map, list_any}
 use Rattle.std.specs.FinMap.{find}
@@ -34,7 +34,7 @@ use Rattle.sal_check.proofs.Combined.{combinations-seen}
 use Rattle.sal_check.proofs.Freshly.{agree-freshly}
 use Rattle.sal_check.proofs.Members.{In}
 use Rattle.sal_check.proofs.NearRows.{too_many-local, repeats-local}
-use Rattle.sal_check.proofs.Walked.{find-in, breach-found, either_right}
+use Rattle.sal_check.proofs.Walked.{find-in, breach-found}
 use Rattle.sal_tree.proofs.Spans.{same_test}
 use Rattle.sal_rows.proofs.Named.{not_true}
 
@@ -66,7 +66,7 @@ least-none (x ∷ xs) e = absurd (some_kept x xs e)
 one_of : (stamps : List ℕ) (s : ℕ) → IsOneOf stamps s → is_new stamps s ≡ true
 one_of [] s h = absurd h
 one_of (k ∷ stamps) s (inl e) = ap (λ b. b || is_new stamps s) (same_test s k e)
-one_of (k ∷ stamps) s (inr h) = either_right (s == k) (is_new stamps s) (one_of stamps s h)
+one_of (k ∷ stamps) s (inr h) = or_right (s == k) (is_new stamps s) (one_of stamps s h)
 
 -- a tree that follows another one keeps all nodes but those with the new stamps
 pub keeps-Follows : (stamps : List ℕ) (touched : List Step → Bool) (before after : Tree) → Follows (IsOneOf stamps) touched before after → Keeps stamps before after

@@ -37,7 +37,6 @@ use Rattle.sal_check.proofs.Least.{least-same}
 use Rattle.sal_check.proofs.Members.{In, In-front, In-back, In-either, In-flat, In-from, In-map, In-from_map, In-kept, In-was}
 use Rattle.sal_check.proofs.SeenTrees.{seen-rows_of, at_none}
 use Rattle.sal_check.proofs.Stated.{broken-states}
-pub use Rattle.sal_check.proofs.Stated.{either_right}
 use Rattle.sal_tree.proofs.Follows.{some_same}
 
 -- ---- tests

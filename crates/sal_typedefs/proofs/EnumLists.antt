@@ -6,7 +6,7 @@ use Rattle.std.specs.List.{flat_map}
 use Rattle.std.specs.Option.{option_to_list}
 use Rattle.std.specs.Ordering.{int_eq}
 use Rattle.std.specs.Cmp.{signed_Decides}
-use Rattle.std.proofs.lemmas.Bool.{cases_Bool, cases_lt, and_parts}
+use Rattle.std.proofs.lemmas.Bool.{cases_Bool, cases_lt, and_parts, or_parts}
 use Rattle.std.proofs.lemmas.Bool.Decides.{nat_tests}
 use Rattle.std.proofs.lemmas.Int.{ints, fold-int_max_bounds}
 use Rattle.std.proofs.lemmas.List.{get_or_append_left, get_or-append_right, length-append}
@@ -25,7 +25,7 @@ use Rattle.sal_typedefs.specs.declared.entry.Numbering.TheVariants.{Enums}
 use Rattle.sal_typedefs.specs.Entries.{item_of, has_form, integer, text_of, stated, is_malformed, has_name, has_number, greatest, next, number_of, is_bad, entry_of, entries_of, entry_faults}
 use Rattle.sal_typedefs.specs.Restrictions.{Base, Layer, HasPlaces, numbering_of, choices, faults_by}
 use Rattle.sal_typedefs.specs.Types.{entries_in}
-use Rattle.sal_typedefs.proofs.PositionLists.{no-or, yes-not, none-least}
+use Rattle.sal_typedefs.proofs.PositionLists.{yes-not, none-least}
 
 -- ---- one name
 
@@ -62,9 +62,9 @@ good-name : (before : List Entry) (stmt : Stmt) → is_bad Enums before stmt ≡
 good-name before stmt good =
     let name = argument_of stmt in
     let number = number_of Enums before stmt in
-    let parts = no-or ((has_name name before || has_number number before) || int_lt (greatest Enums) number) (is_malformed Enums (text_of Enums stmt)) good in
-    let less = no-or (has_name name before || has_number number before) (int_lt (greatest Enums) number) parts.0 in
-    let other = no-or (has_name name before) (has_number number before) less.0 in
+    let parts = or_parts ((has_name name before || has_number number before) || int_lt (greatest Enums) number) (is_malformed Enums (text_of Enums stmt)) good in
+    let less = or_parts (has_name name before || has_number number before) (int_lt (greatest Enums) number) parts.0 in
+    let other = or_parts (has_name name before) (has_number number before) less.0 in
     (other.1, not-greater number less.1, parts.1)
 
 -- ---- numbers that differ

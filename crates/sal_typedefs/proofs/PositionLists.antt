@@ -23,7 +23,6 @@ use Rattle.sal_typedefs.specs.Entries.{item_of, has_form, integer, text_of, stat
 use Rattle.sal_typedefs.specs.Restrictions.{Base, Layer, IsPosition, HasPositions, with_digits, numbering_of, choices, faults_by}
 use Rattle.sal_typedefs.specs.Types.{takes_all, entries_in, restricted}
 use Rattle.sal_typedefs.proofs.LeastLists.{least-some}
-pub use Rattle.sal_typedefs.proofs.LeastLists.{no-or}
 
 -- ---- one name
 

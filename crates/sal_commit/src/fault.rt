@@ -7,7 +7,7 @@ use thiserror::Error;
 #[derive(Debug, Drop, Error)]
 pub enum DomainFault {
     /// The opening tree of the store breaks a structural rule. The configuration is checked first.
-    #[error("a structural rule is broken")]
+    #[error("the opening {store} tree breaks a structural rule: {breach}")]
     Broken { store: Store, breach: Breach },
     #[error("out of memory")]
     NoMemory,

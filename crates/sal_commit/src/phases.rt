@@ -35,7 +35,7 @@ pub struct Prepared {
 #[derive(Debug, Drop, Error)]
 pub enum CanFault {
     /// Its chain has failed, its domain is not live, or it conflicts with a later commit.
-    #[error("refused")]
+    #[error("the submission is refused: {outcome}")]
     Refused { outcome: Outcome },
     #[error("out of memory")]
     NoMemory,
@@ -45,7 +45,7 @@ pub enum CanFault {
 #[derive(Debug, Drop, Error)]
 pub enum PreFault {
     /// A tree would break a structural rule.
-    #[error("invalid")]
+    #[error("the submission is invalid: {outcome}")]
     Invalid { outcome: Outcome },
     #[error("out of memory")]
     NoMemory,

@@ -13,28 +13,28 @@ use thiserror::Error;
 #[derive(Debug, Drop, Error)]
 pub enum DataFault {
     /// No child of the node at the path has this name in the right form.
-    #[error("unknown member `{}`", .name.as_str())]
+    #[error("unknown member `{}` at {path}", .name.as_str())]
     UnknownMember { path: Path, name: Str },
     /// The name has no module, and is at the top or that of a child of another module.
-    #[error("the member `{}` needs the name of its module", .name.as_str())]
+    #[error("the member `{}` at {path} needs the name of its module", .name.as_str())]
     NeedsModule { path: Path, name: Str },
     /// A JSON value other than an object or an array where one of these is required.
-    #[error("an object or an array is wanted")]
+    #[error("an object or an array is wanted at {path}")]
     WrongShape { path: Path },
     /// An entry of the list at the path lacks a key.
-    #[error("a list entry lacks a key")]
+    #[error("an entry of the list {path} lacks a key")]
     MissingKey { path: Path },
     /// The entry has another key or value than that of the path at which it is read.
-    #[error("the key is another one than in the path")]
+    #[error("the entry has another key or value than {path}")]
     KeyDiffers { path: Path },
     /// An earlier entry of the list or leaf-list has the same key or value.
-    #[error("an earlier entry has the same key")]
+    #[error("an earlier entry has the same key or value as {path}")]
     DoubleEntry { path: Path },
     /// A leaf, a leaf-list entry, or a key of the list at the path has no value of its type.
-    #[error("{fault}")]
+    #[error("{fault}, at {path}")]
     BadScalar { path: Path, fault: ScalarFault },
     /// The path would have a 33rd step below this one.
-    #[error("a path has at most 32 steps")]
+    #[error("a path has at most 32 steps, and the data go below {path}")]
     TooDeep { path: Path },
     /// Memory ran out.
     #[error("out of memory")]

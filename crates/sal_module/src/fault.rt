@@ -6,6 +6,7 @@ ghost use Rattle.sal_module.specs.Faults as spec;
 use crate::keyword::Keyword;
 use sal_types::Str;
 use std::alloc::{AllocError, AllocFailed, Global};
+use std::fmt;
 use thiserror::Error;
 
 /// What exceeds its limit.
@@ -17,15 +18,24 @@ pub enum What {
     Nodes,
 }
 
+impl fmt::Display for What {
+    fn fmt<W: fmt::Write>(&self, f: &mut fmt::Formatter<W>) -> fmt::Result {
+        match self {
+            What::Modules => f.write_str("64 modules"),
+            What::Nodes => f.write_str("65,536 nodes"),
+        }
+    }
+}
+
 /// Why modules give no schema. `module` is the index of the module in the order given, and `at` the byte offset of the
 /// statement in its text.
 #[derive(Debug, Drop, Error)]
 pub enum BuildFault {
     /// A statement that is not allowed in its parent.
-    #[error("unknown statement in module {module} at byte {at}")]
+    #[error("a statement that is not allowed there, in module {module} at byte {at}")]
     UnknownStatement { module: u32, at: u32 },
     /// A statement of YANG that the profile does not support.
-    #[error("left out in module {module} at byte {at}")]
+    #[error("a statement that is not supported, in module {module} at byte {at}")]
     LeftOut { module: u32, at: u32 },
     /// A statement that must have a substatement of this keyword has none.
     #[error("missing statement `{}` in module {module} at byte {at}", .keyword.as_str())]
@@ -34,43 +44,43 @@ pub enum BuildFault {
     #[error("second statement `{}` in module {module} at byte {at}", .keyword.as_str())]
     Twice { module: u32, at: u32, keyword: Str },
     /// An argument that is missing, not allowed or of the wrong form, or an import's prefix that the module already has.
-    #[error("bad argument in module {module} at byte {at}")]
+    #[error("bad argument of the statement in module {module} at byte {at}")]
     BadArgument { module: u32, at: u32 },
     /// An import of a module that was not given.
-    #[error("no module in module {module} at byte {at}")]
+    #[error("import of a module that was not given, in module {module} at byte {at}")]
     NoModule { module: u32, at: u32 },
     /// The first import of a module that imports itself, directly or through others.
-    #[error("import cycle in module {module} at byte {at}")]
+    #[error("import of a module by itself, directly or through others, in module {module} at byte {at}")]
     ImportCycle { module: u32, at: u32 },
     /// A name with an unknown prefix, or a name without a definition.
-    #[error("unknown name in module {module} at byte {at}")]
+    #[error("name with an unknown prefix or without a definition, in module {module} at byte {at}")]
     UnknownName { module: u32, at: u32 },
     /// A name whose definition depends on itself.
-    #[error("name cycle in module {module} at byte {at}")]
+    #[error("definition that depends on itself, in module {module} at byte {at}")]
     NameCycle { module: u32, at: u32 },
     /// The later of two definitions of one name, where names must differ.
-    #[error("second node in module {module} at byte {at}")]
+    #[error("second definition of a name in module {module} at byte {at}")]
     DoubleNode { module: u32, at: u32 },
     /// A restriction that its type does not allow, or that is wider than that of its type.
     #[error("bad restriction in module {module} at byte {at}")]
     BadRestriction { module: u32, at: u32 },
     /// A pattern that is malformed.
-    #[error("bad pattern in module {module} at byte {at}")]
+    #[error("malformed pattern in module {module} at byte {at}")]
     BadPattern { module: u32, at: u32 },
     /// A key, or a `unique`, that does not name leafs as required.
-    #[error("bad key in module {module} at byte {at}")]
+    #[error("bad key or unique in module {module} at byte {at}")]
     BadKey { module: u32, at: u32 },
     /// Configuration below state data.
-    #[error("config under state in module {module} at byte {at}")]
+    #[error("configuration below state data in module {module} at byte {at}")]
     ConfigUnderState { module: u32, at: u32 },
     /// An augment or a path whose target does not exist or does not fit.
-    #[error("bad target in module {module} at byte {at}")]
+    #[error("bad target of an augment or a path, in module {module} at byte {at}")]
     BadTarget { module: u32, at: u32 },
     /// The `base` of an identity of a later version's module, which names an identity of an earlier version.
-    #[error("old identity in module {module} at byte {at}")]
+    #[error("base that is an identity of an earlier version, in module {module} at byte {at}")]
     OldIdentity { module: u32, at: u32 },
     /// More modules or nodes than the limit.
-    #[error("too many")]
+    #[error("more than {what}")]
     TooMany { what: What },
     /// Memory ran out.
     #[error("out of memory")]

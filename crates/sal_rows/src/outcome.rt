@@ -86,10 +86,10 @@ pub enum Outcome {
 #[derive(Debug, Drop, PartialEq, Eq, Error)]
 pub enum CallFault {
     /// The log has 1,000,000 entries.
-    #[error("the history is full")]
+    #[error("the history is full: its log has 1,000,000 entries")]
     HistoryFull,
     /// The most submissions that may be pending, 4,096, are.
-    #[error("the pipeline is full")]
+    #[error("the pipeline is full: 4,096 submissions are pending")]
     PipelineFull,
     /// The domain is not live; for a mount: the device does not exist.
     #[error("no live domain {id}")]
@@ -102,7 +102,7 @@ pub enum CallFault {
         id: u64,
     },
     /// The most listeners that may be live, 256, are.
-    #[error("too many listeners")]
+    #[error("256 listeners are live, and no more are allowed")]
     TooManyListeners,
     /// No client provides the RPC in the context or without one; for a withdrawal: the client does not provide it in this context.
     #[error("no provider of rpc {rpc}")]
@@ -110,7 +110,7 @@ pub enum CallFault {
         rpc: u32,
     },
     /// The RPC is provided in this context already.
-    #[error("rpc {rpc} has its provider")]
+    #[error("rpc {rpc} has a provider already")]
     ProviderTaken {
         rpc: u32,
     },
@@ -125,7 +125,7 @@ pub enum CallFault {
         subscriber: u32,
     },
     /// This domain is mounted at the path.
-    #[error("domain {id} is mounted there")]
+    #[error("domain {id} is mounted at the path")]
     MountTaken {
         id: u32,
     },
@@ -135,10 +135,10 @@ pub enum CallFault {
         id: u32,
     },
     /// The last transaction of the chain is neither submitted nor cancelled.
-    #[error("the chain's previous transaction is open")]
+    #[error("the chain's previous transaction is neither submitted nor cancelled")]
     PreviousOpen,
     /// The submission of the chain with this receipt has an outcome other than done.
-    #[error("the chain failed by receipt {receipt}")]
+    #[error("the chain failed at receipt {receipt}")]
     ChainFailed {
         receipt: u64,
     },
@@ -148,15 +148,15 @@ pub enum CallFault {
     #[error("out of memory")]
     NoMemory,
     /// The transaction was submitted or cancelled before.
-    #[error("the transaction is spent")]
+    #[error("the transaction was submitted or cancelled before")]
     TxSpent,
     /// For an upgrade: it does not follow the present version of the schema, which has this number.
-    #[error("the schema has version {have}")]
+    #[error("the schema has version {have}, and the upgrade is not to the next one")]
     WrongVersion {
         have: u32,
     },
     /// For an upgrade: the newest tree of this store would break this rule of the new version at this path.
-    #[error("the newest tree breaks a rule of the new version")]
+    #[error("the newest {store} tree breaks a rule of the new version: {rule} at {path}")]
     UpgradeBreach {
         store: Store,
         path: Path,

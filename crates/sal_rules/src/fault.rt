@@ -9,13 +9,13 @@ pub enum TxFault {
     #[error("the transaction only writes")]
     WriteOnly,
     /// State data in the configuration: the path written, if it is of a state node, or else that of the first row of one.
-    #[error("state data in the configuration")]
+    #[error("state data in the configuration, at {path}")]
     NotConfig { path: Path },
     /// A write at a key leaf.
-    #[error("a write at a key leaf")]
+    #[error("a write at the key leaf {path}")]
     KeyLeaf { path: Path },
     /// The outermost list entry or presence container above the path that the tree does not have.
-    #[error("a parent is missing")]
+    #[error("the parent {path} is missing")]
     ParentMissing { path: Path },
     /// A write at the root.
     #[error("a write at the root")]

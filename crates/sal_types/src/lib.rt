@@ -14,6 +14,8 @@
 //! | `NoMemory`, `Duplicate` | memory ran out; a value that can be copied |
 //! | `Exact` | an order in which `Equal` means the same value |
 //!
+//! Errors show a place by `Display`: `/3["eth0"]/7` is a path, with the numbers of its nodes and the values of its keys (`shown`).
+//!
 //! A contract sees `Seq`, `Str` and `Path` as lists. `specs/` defines the orders, the prefixes of a path, what a tree
 //! is, and how readers chain their steps.
 //!
@@ -34,6 +36,7 @@ pub mod path;
 pub mod pushes;
 pub mod row;
 pub mod seq;
+pub mod shown;
 pub mod text;
 pub mod value;
 pub mod words;

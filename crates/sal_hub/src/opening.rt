@@ -7,13 +7,13 @@ use thiserror::Error;
 #[derive(Debug, Drop, Error)]
 pub enum OpenFault {
     /// The configuration has state data; the path is that of the first row of a state node.
-    #[error("state data in the configuration of device {device}")]
+    #[error("state data in the configuration of device {device}, at {path}")]
     NotConfig {
         device: u32,
         path: Path,
     },
     /// A tree breaks a structural rule.
-    #[error("a tree of device {device} breaks a structural rule")]
+    #[error("the {store} tree of device {device} breaks a structural rule: {breach}")]
     Broken {
         device: u32,
         store: Store,

@@ -21,7 +21,7 @@ use thiserror::Error;
 #[derive(Clone, Copy, Debug, PartialEq, Eq, Error)]
 pub enum PlayFault {
     /// It fails at this index: it names a client without a shared call left, or ends while one is left.
-    #[error("the order fails at index {index}")]
+    #[error("the order fails at index {index}: no shared call of that client is left, or the order ends too early")]
     BadOrder { index: u64 },
     /// Memory ran out.
     #[error("out of memory")]

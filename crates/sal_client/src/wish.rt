@@ -61,7 +61,7 @@ pub enum Wish {
 #[derive(Clone, Copy, Debug, PartialEq, Eq, Error)]
 pub enum RunFault {
     /// The log is full, and has no entry of the call.
-    #[error("the log is full")]
+    #[error("the log is full: it has 1,000,000 entries")]
     HistoryFull,
     /// Memory ran out, before the call or while its reply was kept.
     #[error("out of memory")]

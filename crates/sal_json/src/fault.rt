@@ -8,7 +8,7 @@ use thiserror::Error;
 #[derive(Clone, Copy, Debug, Error)]
 pub enum ScalarFault {
     /// The type takes another kind of JSON values, or texts of another form. Or no member of a union takes it.
-    #[error("this is not in the form of the type")]
+    #[error("the value is not in the form of its type")]
     WrongKind,
     /// The number is not in the range, or has more digits after its point than the type.
     #[error("the number is out of range")]
@@ -17,10 +17,10 @@ pub enum ScalarFault {
     #[error("the length is out of range")]
     BadLength,
     /// The text does not match the patterns of the type.
-    #[error("a pattern does not match")]
+    #[error("the text does not match a pattern of its type")]
     NoMatch,
     /// There is no enum, bit or identity of this name, or the identity is not derived from the bases of the type.
-    #[error("unknown name")]
+    #[error("the type has no enum, bit or identity of this name")]
     UnknownName,
     /// Memory ran out.
     #[error("out of memory")]

@@ -12,7 +12,7 @@ use thiserror::Error;
 #[derive(Clone, Copy, Debug, PartialEq, Eq, Error)]
 pub enum MirrorFault {
     /// The batch begins at another commit than the mirror's.
-    #[error("the mirror is at {have}, the batch begins at {from}")]
+    #[error("the mirror is at commit {have}, and the batch begins at commit {from}")]
     Gap { have: u64, from: u64 },
     #[error("out of memory")]
     NoMemory,

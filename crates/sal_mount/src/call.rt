@@ -24,7 +24,7 @@ pub enum MountFault {
     #[error("device {id} was mounted before")]
     DeviceUsed { id: u32 },
     /// This domain is mounted at the path.
-    #[error("domain {id} is mounted there")]
+    #[error("domain {id} is mounted at the path")]
     MountTaken { id: u32 },
     #[error("out of memory")]
     NoMemory,

@@ -9,7 +9,7 @@ use thiserror::Error;
 #[derive(Clone, Copy, Debug, Error)]
 pub enum PathTextFault {
     /// The first byte that the form does not allow, or the end of the text if it ends too early.
-    #[error("a path cannot have this at byte {at}")]
+    #[error("the form of a path does not allow what is at byte {at}")]
     BadText { at: usize },
     /// The first byte of a name that refers to no data node there, or is not in the right form.
     #[error("unknown node at byte {at}")]

@@ -9,10 +9,10 @@ use thiserror::Error;
 #[derive(Clone, Copy, Debug, PartialEq, Eq, Error)]
 pub enum RangeFault {
     /// The text is not of the form of a range, or its bounds or parts are out of order.
-    #[error("this is no range")]
+    #[error("the text is not a range, or its parts are out of order")]
     BadText,
     /// It has the form, but one of its numbers is not in the range that it restricts.
-    #[error("the range is wider than the one that it restricts")]
+    #[error("the range has a number outside the range that it restricts")]
     Wider,
     /// Memory ran out.
     #[error("out of memory")]

@@ -51,7 +51,7 @@ pub enum RpcFault {
     #[error("no provider of rpc {rpc}")]
     NoProvider { rpc: u32 },
     /// The RPC is provided in this context already.
-    #[error("rpc {rpc} has its provider")]
+    #[error("rpc {rpc} has a provider already")]
     ProviderTaken { rpc: u32 },
     /// For an answer: the client did not take the request, or it is answered. For a collection: the client did not make the request.
     #[error("no call {id} of this client")]

@@ -13,14 +13,14 @@ pub enum StmtFault {
     #[error("bad token at byte {at}")]
     BadToken { at: u32 },
     /// The backslash of an unknown escape.
-    #[error("bad escape at byte {at}")]
+    #[error("unknown escape at byte {at}")]
     BadEscape { at: u32 },
     /// The text ends too early. Inside a quoted string or a block comment: its first byte. Inside a statement before
     /// its `;` or `{`: its keyword. Inside a block: the `{` of the innermost.
-    #[error("unclosed at byte {at}")]
+    #[error("the string, comment, statement or block at byte {at} does not end")]
     Unclosed { at: u32 },
     /// The `{` of a 65th block that would be open.
-    #[error("too deep at byte {at}")]
+    #[error("more than 64 open blocks at byte {at}")]
     TooDeep { at: u32 },
     /// The first token after the one statement.
     #[error("text after the statement at byte {at}")]

@@ -1,6 +1,5 @@
 -- The children of sheets and of parts of them.
-use Rattle.std.proofs.Common.{◌≡◌, ℕ, suc, zero, ◌+◌, ◌<◌, ◌≤◌, List, [], ◌∷◌, ◌++◌, length, take, drop, get_or, refl, ap, sym, ◌∙◌, subst, append_assoc, arith}
-use Rattle.std.proofs.lemmas.List.{take_more, take-append-drop}
+use Rattle.std.proofs.Common.{◌≡◌, ℕ, suc, zero, ◌+◌, ◌<◌, ◌≤◌, List, [], ◌∷◌, ◌++◌, length, take, drop, get_or, refl, ap, sym, ◌∙◌, subst, arith}
 use Rattle.std.specs.declared.sync.Arc.{Arc}
 use Rattle.std.specs.declared.alloc.Global.{Global}
 use Rattle.std.specs.Borrow.{Bor}
@@ -10,15 +9,15 @@ use Rattle.sal_node.specs.Shape.{listed, sheeted, ArePages, AreSheets, UpTo, see
 use Rattle.sal_node.specs.declared.node.Page.{Page}
 use Rattle.sal_node.specs.declared.node.Sheet.{Sheet}
 use Rattle.sal_node.specs.declared.node.Child.{Child}
-use Rattle.sal_node.proofs.Rows.{listed-append}
+use Rattle.sal_node.proofs.Parts as parts
+use Rattle.sal_node.proofs.Rows.{page_row}
 
-append_none : (xs : List (Step × Tree)) → xs ++ [] ≡ xs
-append_none [] = refl
-append_none (x ∷ xs) = ap (λ (r : List (Step × Tree)). x ∷ r) (append_none xs)
+-- the children of a sheet
+abbrev pub sheet_row : Arc Sheet Global → List (Step × Tree)
+sheet_row s = listed s.value.pages.items
 
 pub sheeted-append : (ps qs : List (Arc Sheet Global)) → sheeted (ps ++ qs) ≡ sheeted ps ++ sheeted qs
-sheeted-append [] qs = refl
-sheeted-append (p ∷ ps) qs = ap (λ (r : List (Step × Tree)). listed p.value.pages.items ++ r) (sheeted-append ps qs) ∙ sym (append_assoc (listed p.value.pages.items) (sheeted ps) (sheeted qs))
+sheeted-append = parts.append sheet_row sheeted refl (λ s ss. refl)
 
 pub AreSheets-append : (ps qs : List (Arc Sheet Global)) → AreSheets ps → AreSheets qs → AreSheets (ps ++ qs)
 AreSheets-append [] qs g h = h
@@ -43,9 +42,8 @@ AreSheets-drop (p ∷ ps) (suc n) h = AreSheets-drop ps n h.1
 pub sheeted-more : (into sheets : List (Arc Sheet Global)) (i : ℕ) (p : Arc Sheet Global) (new : Arc Sheet Global) (start after : List (Arc Sheet Global)) →
     i < length sheets → p ≡ get_or sheets i p → new.value ≡ p.value
     → sheeted into ≡ sheeted start ++ sheeted (take i sheets) → after ≡ into ++ new ∷ [] → sheeted after ≡ sheeted start ++ sheeted (take (i + 1) sheets)
-sheeted-more into sheets i p new start after l at value was is =
-    ap sheeted is ∙ sheeted-append into (new ∷ []) ∙ (λ k. was k ++ (listed (value k).pages.items ++ [])) ∙ append_assoc (sheeted start) _ _
-    ∙ ap (λ (r : List (Step × Tree)). sheeted start ++ r) (sym (ap sheeted (take_more sheets i p l) ∙ sheeted-append (take i sheets) _ ∙ ap (λ (d : Arc Sheet Global). sheeted (take i sheets) ++ sheeted (d ∷ [])) (sym at)))
+sheeted-more into sheets i p new start after l at value =
+    parts.one-more sheet_row sheeted refl (λ s ss. refl) into sheets i p new start after l (ap sheet_row (sym at) ∙ ap (λ (v : Sheet). listed v.pages.items) (sym value))
 
 pub AreSheets-more : (into sheets : List (Arc Sheet Global)) (i : ℕ) (p : Arc Sheet Global) (new : Arc Sheet Global) (after : List (Arc Sheet Global)) →
     i < length sheets → p ≡ get_or sheets i p → new.value ≡ p.value
@@ -55,18 +53,15 @@ AreSheets-more into sheets i p new after l at value h g is =
     rw is (AreSheets-append into (new ∷ []) h (rw (value, at) fits, tt))
 
 pub sheeted-push : (ps : List (Arc Sheet Global)) (p : Arc Sheet Global) (cs : List (Arc Page Global)) (after : List (Arc Sheet Global)) → p.value.pages.items ≡ cs → after ≡ ps ++ p ∷ [] → sheeted after ≡ sheeted ps ++ listed cs
-sheeted-push ps p cs after is e = ap sheeted e ∙ sheeted-append ps (p ∷ []) ∙ ap (λ (r : List (Step × Tree)). sheeted ps ++ r) (append_none (listed p.value.pages.items) ∙ ap listed is)
+sheeted-push ps p cs after is = parts.pushed sheet_row sheeted refl (λ s ss. refl) ps p (listed cs) after (ap listed is)
 
 pub AreSheets-push : (ps : List (Arc Sheet Global)) (p : Arc Sheet Global) (cs : List (Arc Page Global)) (after : List (Arc Sheet Global)) → p.value.pages.items ≡ cs → after ≡ ps ++ p ∷ [] → 1 ≤ length cs → length cs ≤ 64 → ArePages cs → UpTo p.value.newest (listed cs) → AreSheets ps → AreSheets after
 AreSheets-push ps p cs after is e some few pages upto h = rw e (AreSheets-append ps (p ∷ []) h (subst (λ (r : List (Arc Page Global)). (1 ≤ length r) × (length r ≤ 64) × ArePages r × UpTo p.value.newest (listed r)) (sym is) (some, few, pages, upto), tt))
 
 pub sheeted-two : (ps qs rs : List (Arc Sheet Global)) (all first last : List (Arc Page Global)) (n : ℕ) → first ≡ take n all → last ≡ drop n all → sheeted qs ≡ sheeted ps ++ listed first → sheeted rs ≡ sheeted qs ++ listed last → sheeted rs ≡ sheeted ps ++ listed all
-sheeted-two ps qs rs all first last n f l a b =
-    b ∙ (λ i. a i ++ listed last) ∙ append_assoc (sheeted ps) (listed first) (listed last)
-    ∙ ap (λ (r : List (Step × Tree)). sheeted ps ++ r) (sym (listed-append first last) ∙ ap listed ((λ i. f i ++ l i) ∙ take-append-drop n all))
+sheeted-two ps qs rs = parts.two page_row listed refl (λ p ps. refl) (sheeted ps) (sheeted qs) (sheeted rs)
 
 pub sheeted-next : (into : List (Bor Child)) (sheets : List (Arc Sheet Global)) (i : ℕ) (p : Arc Sheet Global) (cs : List (Arc Page Global)) (start after : List (Bor Child)) → i < length sheets → p ≡ get_or sheets i p → cs ≡ p.value.pages.items →
     seen into ≡ seen start ++ sheeted (take i sheets) → seen after ≡ seen into ++ listed cs → seen after ≡ seen start ++ sheeted (take (i + 1) sheets)
-sheeted-next into sheets i p cs start after l at is was e =
-    e ∙ (λ k. was k ++ listed (is k)) ∙ append_assoc (seen start) _ _
-    ∙ ap (λ (r : List (Step × Tree)). seen start ++ r) (sym (ap sheeted (take_more sheets i p l) ∙ sheeted-append (take i sheets) _ ∙ ap (λ (q : Arc Sheet Global). sheeted (take i sheets) ++ (listed q.value.pages.items ++ [])) (sym at) ∙ ap (λ (r : List (Step × Tree)). sheeted (take i sheets) ++ r) (append_none (listed p.value.pages.items))))
+sheeted-next into sheets i p cs start after l at is =
+    parts.next sheet_row sheeted refl (λ s ss. refl) sheets i p (listed cs) (seen start) (seen into) (seen after) l (ap sheet_row (sym at) ∙ ap listed (sym is))

@@ -1,13 +1,12 @@
 -- A client's box when notifications are offered and withdrawn.
 use Rattle.std.proofs.Common.{◌≡◌, ℕ, zero, suc, ◌-◌, ◌<◌, ◌≤◌, Bool, true, false, ◌||◌, List, [], ◌∷◌, ◌++◌, Option, Some, None, length, drop, take, get_or, refl, ap, sym, ◌∙◌, cond, arith, append-nil, length-append, drop-cons, if◌then◌else◌, nat_eq}
 use Rattle.std.specs.Prelude.{is_some, slice_get}
-use Rattle.std.specs.BTreeMap.{insert_entry, is_at}
-use Rattle.std.specs.Cmp.{eq_by_cmp_equiv, nat_cmp_total, tied_itself}
+use Rattle.std.specs.BTreeMap.{is_at}
+use Rattle.std.specs.Cmp.{eq_by_cmp_equiv, nat_cmp_total}
 use Rattle.std.specs.List.{filter, list_any}
-use Rattle.std.specs.Map.{lookup, remove_entry, set_value}
+use Rattle.std.specs.Map.{set_value}
 use Rattle.std.specs.Option.{unwrap_or}
-use Rattle.std.specs.Ordering.{is_eq, match_ordering, nat_cmp}
-use Rattle.std.specs.declared.cmp.Ordering.TheVariants.{Less, Equal, Greater}
+use Rattle.std.specs.Ordering.{nat_cmp}
 use Rattle.std.proofs.lemmas.Bool.Decides.{nat_tests}
 use Rattle.std.proofs.lemmas.List.Sums.{fold-append}
 use Rattle.std.proofs.lemmas.Map.{lookup-set_value}
@@ -15,7 +14,7 @@ use Rattle.std.proofs.lemmas.Map.Steps.{set_value_same}
 use Rattle.sal_note.specs.declared.call.Note.{Note}
 use Rattle.sal_note.specs.Boxes.{AreAbove, Ascend, box_in, give_one, given, put_back, queue_in, take_one, taken_back}
 use Rattle.sal_note.proofs.Ascending.{absent}
-pub use Rattle.sal_types.proofs.Shared.{none-of, on_err}
+pub use Rattle.sal_types.proofs.Shared.{none-of, on_err, remove-insert}
 
 -- ---- the first that passes a test
 
@@ -40,18 +39,6 @@ none-more p (x ∷ xs) (suc i) low e none =
 pub last-dropped : (xs : List ℕ) (n : ℕ) → 0 < n → n ≤ length xs → drop (n - 1) xs ≡ get_or xs (n - 1) 0 ∷ drop n xs
 last-dropped xs zero low high = absurd (omega arith)
 last-dropped xs (suc k) low high = let one : suc k - 1 ≡ k = omega arith in let within : k < length xs = omega (arith, high) in ap (λ n. drop n xs) one ∙ drop-cons xs k 0 within ∙ ap (λ n. get_or xs n 0 ∷ drop (suc k) xs) (sym one)
-
--- ---- to insert at a new key and remove again gives the same entries
-
-pub remove-insert : (k : ℕ) (v : List Note) (es : List (ℕ × List Note)) → lookup (is_at (nat_cmp k)) es ≡ None → remove_entry (is_at (nat_cmp k)) (insert_entry nat_cmp es k v) ≡ es
-remove-insert k v [] none = let e : List (ℕ × List Note) = (k, v) ∷ [] in ap (λ r. cond (is_eq r) [] e) (tied_itself nat_cmp_total k)
-remove-insert k v (e ∷ es) none =
-    elim (nat_cmp k e.0) as (λ r. nat_cmp k e.0 ≡ r → remove_entry (is_at (nat_cmp k)) (match_ordering r ((k, v) ∷ e ∷ es) ((e.0, v) ∷ es) (e ∷ insert_entry nat_cmp es k v)) ≡ e ∷ es) [
-      | Less ↦ λ _. ap (λ r. cond (is_eq r) (e ∷ es) ((k, v) ∷ remove_entry (is_at (nat_cmp k)) (e ∷ es))) (tied_itself nat_cmp_total k)
-      | Equal ↦ λ here. let found : lookup (is_at (nat_cmp k)) (e ∷ es) ≡ Some e.1 = ap (λ r. cond (is_eq r) (Some e.1) (lookup (is_at (nat_cmp k)) es)) here in cc
-      | Greater ↦ λ past. let rest : lookup (is_at (nat_cmp k)) es ≡ None = sym (ap (λ r. cond (is_eq r) (Some e.1) (lookup (is_at (nat_cmp k)) es)) past) ∙ none in
-          ap (λ r. cond (is_eq r) (insert_entry nat_cmp es k v) (e ∷ remove_entry (is_at (nat_cmp k)) (insert_entry nat_cmp es k v))) past ∙ ap (λ l. e ∷ l) (remove-insert k v es rest)
-    ] refl
 
 -- ---- one box is written
 

@@ -1,5 +1,5 @@
 -- Texts in quotes, from one quote to the next.
-use Rattle.std.proofs.Common.{◌≡◌, ℕ, suc, ◌+◌, ◌<◌, ◌≤◌, Bool, true, false, not, ◌==◌, List, [], ◌∷◌, ◌++◌, length, take, drop, get_or, Ok, Err, if◌then◌else◌, refl, sym, ap, ◌∙◌, inl, inr, arith, append_assoc, append-nil}
+use Rattle.std.proofs.Common.{◌≡◌, ℕ, suc, ◌+◌, ◌<◌, ◌≤◌, Bool, true, false, not, ◌==◌, [], ◌∷◌, ◌++◌, length, take, drop, get_or, Ok, if◌then◌else◌, refl, sym, ap, ◌∙◌, inl, inr, arith, append-nil}
 use Rattle.std.proofs.lemmas.Bool.{cases_Bool}
 use Rattle.std.proofs.lemmas.Bool.Decides.{nat_tests}
 use Rattle.std.proofs.lemmas.List.{drop_more, drop-drop}
@@ -7,7 +7,8 @@ use Rattle.std.proofs.lemmas.List.Sums.{prefix_len_stops}
 use Rattle.std.specs.List.{list_any, prefix_len}
 use Rattle.sal_types.specs.Reading.{with_front}
 use Rattle.sal_pathtext.specs.Written.{doubled}
-use Rattle.sal_pathtext.specs.Words.{Text, Read, first, is_double_quote, bad_text, single}
+use Rattle.sal_pathtext.specs.Words.{Text, first, is_double_quote, bad_text, single}
+pub use Rattle.sal_types.proofs.Shared.{with_front-with_front, with_front-nil}
 
 abbrev pub is_other : ℕ → ℕ → Bool
 is_other q c = not (c == q)
@@ -15,14 +16,6 @@ is_other q c = not (c == q)
 -- how many bytes are before the next such byte
 abbrev pub before : ℕ → Text → ℕ
 before q t = prefix_len (is_other q) t
-
-pub with_front-with_front : {A : Type 0} (a b : List A) (r : Read (List A)) → with_front a (with_front b r) ≡ with_front (a ++ b) r
-with_front-with_front a b (Ok x) = ap (λ t. Ok (t, x.1)) (sym (append_assoc a b x.0))
-with_front-with_front a b (Err e) = refl
-
-pub with_front-nil : {A : Type 0} (r : Read (List A)) → with_front [] r ≡ r
-with_front-nil (Ok x) = refl
-with_front-nil (Err e) = refl
 
 -- what is at the next such byte
 pub stands_at : (q : ℕ) (t : Text) → before q t < length t → get_or t (before q t) 0 ≡ q

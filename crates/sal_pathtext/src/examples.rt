@@ -1,4 +1,6 @@
 //! Examples, computed from the definitions.
+#![tactic(auto, unfolding(crate::specs::Read::read_path, crate::specs::Read::steps, crate::specs::Read::one_more, crate::specs::Read::named, crate::specs::Read::entered, crate::specs::Read::predicates, crate::specs::Read::predicate, crate::specs::Read::subject, crate::specs::Words::name, crate::specs::Words::single, crate::specs::Words::said, sal_schema::specs::Table::closest))]
+
 ghost use Rattle.std.specs.Prelude.{◌≡◌, ◌∷◌, ◌++◌, [], Ok, Err, codes};
 ghost use Rattle.sal_types.specs.declared.value.Step.TheVariants.{Node, Item};
 ghost use Rattle.sal_pathtext.specs.Examples as example;

@@ -1,4 +1,6 @@
 //! Examples, computed from the definitions: each clause is a text and its statement or fault.
+#![tactic(auto, unfolding(crate::specs::Words::word_len, crate::specs::Words::is_keyword, crate::specs::Quoted::last_columns, crate::specs::Quoted::unescape, crate::specs::Quoted::without_indent, crate::specs::Quoted::join_lines, crate::specs::Quoted::content, crate::specs::Text::line_comment, crate::specs::Text::block_comment, crate::specs::Text::separators, crate::specs::Text::within, crate::specs::Text::single, crate::specs::Text::double, crate::specs::Text::quoted, crate::specs::Text::joined, crate::specs::Text::argument, crate::specs::Text::header, crate::specs::Text::statements, crate::specs::Text::statement, crate::specs::Text::read))]
+
 ghost use Rattle.std.specs.Prelude.{◌≡◌, codes, [], ◌∷◌, Ok, Err};
 ghost use Rattle.sal_stmt.specs.Text.{read};
 ghost use Rattle.sal_stmt.specs.Examples as example;

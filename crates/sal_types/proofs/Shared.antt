@@ -1,14 +1,16 @@
 -- Small lemmas that several crates need.
-use Rattle.std.proofs.Common.{refl, Err, Ok, Result, ◌≡◌, List, [], ◌∷◌, ◌++◌, inl, inr, subst, Some, length, get_or, suc, zero, ℕ, Bool, false, true, None, Option, arith, nat_lt, ◌≤◌, ◌<◌, ◌&&◌, ◌||◌}
-use Rattle.sal_types.specs.Reading.{◌>>=◌}
+use Rattle.std.proofs.Common.{refl, ap, sym, ◌∙◌, cond, append_assoc, Err, Ok, Result, ◌≡◌, List, [], ◌∷◌, ◌++◌, inl, inr, subst, Some, length, get_or, suc, zero, ℕ, Bool, false, true, None, Option, arith, nat_lt, ◌≤◌, ◌<◌, ◌&&◌, ◌||◌}
+use Rattle.sal_types.specs.Reading.{◌>>=◌, with_front}
 use Rattle.std.specs.Prelude.{◌⊎◌, not, is_some, OnErr, T}
 use Rattle.std.specs.List.{flat_map, slice_get, cons_option}
 use Rattle.std.specs.Option.{option_to_list}
 use Rattle.std.proofs.lemmas.Bool.Decides.{nat_tests}
 use Rattle.std.specs.declared.cmp.Ordering.TheVariants.{Equal, Greater, Less}
 use Rattle.std.specs.declared.cmp.Ordering.{Ordering}
-use Rattle.std.specs.Ordering.{is_eq, ordering_then, is_lt}
-use Rattle.std.specs.Cmp.{Equal-is}
+use Rattle.std.specs.Ordering.{is_eq, match_ordering, nat_cmp, ordering_then, is_lt}
+use Rattle.std.specs.BTreeMap.{insert_entry, is_at}
+use Rattle.std.specs.Cmp.{Equal-is, nat_cmp_total, tied_itself}
+use Rattle.std.specs.Map.{lookup, remove_entry}
 use Rattle.sal_types.specs.declared.value.Step.{Step}
 use Rattle.sal_types.specs.Order.{path_cmp-IsAntisymmetric, path_eq}
 
@@ -94,3 +96,22 @@ pub less : (o : Ordering) → T (is_lt o) → o ≡ Less
 less Less h = refl
 less Equal h = absurd h
 less Greater h = absurd h
+
+pub with_front-with_front : {A R F : Type 0} (a b : List A) (r : Result (List A × R) F) → with_front a (with_front b r) ≡ with_front (a ++ b) r
+with_front-with_front a b (Ok x) = ap (λ t. Ok (t, x.1)) (sym (append_assoc a b x.0))
+with_front-with_front a b (Err e) = refl
+
+pub with_front-nil : {A R F : Type 0} (r : Result (List A × R) F) → with_front [] r ≡ r
+with_front-nil (Ok x) = refl
+with_front-nil (Err e) = refl
+
+-- to insert at a new key and remove again gives the same entries
+pub remove-insert : {V : Type 0} (k : ℕ) (v : V) (es : List (ℕ × V)) → lookup (is_at (nat_cmp k)) es ≡ None → remove_entry (is_at (nat_cmp k)) (insert_entry nat_cmp es k v) ≡ es
+remove-insert {V} k v [] none = let e : List (ℕ × V) = (k, v) ∷ [] in ap (λ r. cond (is_eq r) [] e) (tied_itself nat_cmp_total k)
+remove-insert k v (e ∷ es) none =
+    elim (nat_cmp k e.0) as (λ r. nat_cmp k e.0 ≡ r → remove_entry (is_at (nat_cmp k)) (match_ordering r ((k, v) ∷ e ∷ es) ((e.0, v) ∷ es) (e ∷ insert_entry nat_cmp es k v)) ≡ e ∷ es) [
+      | Less ↦ λ _. ap (λ r. cond (is_eq r) (e ∷ es) ((k, v) ∷ remove_entry (is_at (nat_cmp k)) (e ∷ es))) (tied_itself nat_cmp_total k)
+      | Equal ↦ λ here. let found : lookup (is_at (nat_cmp k)) (e ∷ es) ≡ Some e.1 = ap (λ r. cond (is_eq r) (Some e.1) (lookup (is_at (nat_cmp k)) es)) here in cc
+      | Greater ↦ λ past. let rest : lookup (is_at (nat_cmp k)) es ≡ None = sym (ap (λ r. cond (is_eq r) (Some e.1) (lookup (is_at (nat_cmp k)) es)) past) ∙ none in
+          ap (λ r. cond (is_eq r) (insert_entry nat_cmp es k v) (e ∷ remove_entry (is_at (nat_cmp k)) (insert_entry nat_cmp es k v))) past ∙ ap (λ l. e ∷ l) (remove-insert k v es rest)
+    ] refl

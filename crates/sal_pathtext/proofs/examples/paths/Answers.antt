@@ -1,5 +1,4 @@
 -- Each example by computation.
-use Rattle.std.proofs.Common.{refl}
 use Rattle.std.specs.Fmt.{digits}
 use Rattle.std.specs.Str.{chars}
 use Rattle.sal_restrict.specs.declared.yang_type.YangType.TheViews.{out-roll-YangType}
@@ -9,17 +8,9 @@ use Rattle.sal_pathtext.specs.Words.{name, single, said}
 use Rattle.sal_pathtext.specs.Read.{read_path, steps, one_more, named, entered, predicates, predicate, subject}
 use Rattle.sal_pathtext.proofs.examples.paths.Goals as goal
 
-pub returns-clause-root : goal.returns-clause-root
-unfolding read_path steps one_more named entered predicates predicate subject name single said closest digits chars
-returns-clause-root c = refl
-
 pub returns-clause-of_another_module : goal.returns-clause-of_another_module
 unfolding read_path steps one_more named entered predicates predicate subject name single said closest digits chars
 returns-clause-of_another_module c = simp (type_text_scalar, out-roll-YangType)
-
-pub returns-clause-whole_list : goal.returns-clause-whole_list
-unfolding read_path steps one_more named entered predicates predicate subject name single said closest digits chars
-returns-clause-whole_list c = refl
 
 pub returns-clause-keys_in_order : goal.returns-clause-keys_in_order
 unfolding read_path steps one_more named entered predicates predicate subject name single said closest digits chars

@@ -1,15 +1,10 @@
 -- Each example by computation.
-use Rattle.std.proofs.Common.{refl}
 use Rattle.std.specs.Fmt.{digits}
 use Rattle.std.specs.Str.{chars}
 use Rattle.sal_restrict.specs.declared.yang_type.YangType.TheViews.{out-roll-YangType}
 use Rattle.sal_schema.specs.Table.{closest}
 use Rattle.sal_json.specs.Written.{type_text_of, layer_for}
 use Rattle.sal_pathtext.proofs.examples.texts.Goals as goal
-
-pub returns-clause-root : goal.returns-clause-root
-unfolding closest digits chars
-returns-clause-root c = refl
 
 pub returns-clause-of_another_module : goal.returns-clause-of_another_module
 unfolding closest digits chars

@@ -59,8 +59,8 @@ fn bad_at(place: Result<String, AllocError>) -> ScriptFault
     }
 }
 
-// The fault with this place.
-pub(crate) fn bad(alloc: Global, place: &str) -> ScriptFault
+/// The fault with this place.
+pub fn bad(alloc: Global, place: &str) -> ScriptFault
     ensures { IsBadAt place.now result }
 {
     bad_at(String::from_str(alloc, place))

@@ -68,7 +68,7 @@ mod values;
 
 pub use fault::ScriptFault;
 pub use load::{LOAD_CLIENTS, LOAD_MODULE, MAX_ROUNDS, MAX_START, load_script};
-pub use read::{read_script, read_step};
+pub use read::{read_script, read_step, value_of};
 pub use reply::{StepRefusal, StepReply};
 pub use script::{
     MAX_CLIENTS, MAX_DEVICES, MAX_PROGRAM, MAX_UPGRADES, PLAIN, Program, Script, ScriptDevice,

@@ -36,8 +36,8 @@ pub fn read_script(alloc: Global, bytes: &[u8]) -> Result<Script, ScriptFault>
     parts_of(alloc, members)
 }
 
-// The JSON value that bytes denote.
-fn value_of(alloc: Global, bytes: &[u8]) -> Result<Value, ScriptFault>
+/// The JSON value that bytes denote.
+pub fn value_of(alloc: Global, bytes: &[u8]) -> Result<Value, ScriptFault>
     ensures { Reads view result (spec.or_bad (codes "json") (data_of bytes.now)) }
 {
     let Ok(text) = str::from_utf8(bytes) else {

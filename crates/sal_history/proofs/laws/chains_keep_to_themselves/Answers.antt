@@ -2,11 +2,5 @@
 use Rattle.sal_history.proofs.Numbers.{apart_in_chains, in_order, on_top_of_base}
 use Rattle.sal_history.proofs.laws.chains_keep_to_themselves.Goals as goal
 
-pub returns-clause-base : goal.returns-clause-base
-returns-clause-base c = on_top_of_base
-
-pub returns-clause-own : goal.returns-clause-own
-returns-clause-own c = apart_in_chains
-
-pub returns-clause-order : goal.returns-clause-order
-returns-clause-order c = in_order
+pub returns : goal.returns
+returns c = record { base = on_top_of_base; own = apart_in_chains; order = in_order }

@@ -5,26 +5,6 @@ use Rattle.std.specs.Str.Lossy.{utf8_valid_len}
 use Rattle.serde_json.proofs.OnLiterals.{serde_json_on_literals}
 use Rattle.sal_script.proofs.checked_examples.reads_read.Goals as goal
 
-pub returns-clause-checked : goal.returns-clause-checked
+pub returns : goal.returns
 unfolding serde_json_on_literals utf8_valid_len is_utf8 chars
-returns-clause-checked c = refl
-
-pub returns-clause-absent : goal.returns-clause-absent
-unfolding serde_json_on_literals utf8_valid_len is_utf8 chars
-returns-clause-absent c = refl
-
-pub returns-clause-text : goal.returns-clause-text
-unfolding serde_json_on_literals utf8_valid_len is_utf8 chars
-returns-clause-text c = refl
-
-pub returns-clause-truth : goal.returns-clause-truth
-unfolding serde_json_on_literals utf8_valid_len is_utf8 chars
-returns-clause-truth c = refl
-
-pub returns-clause-nothing : goal.returns-clause-nothing
-unfolding serde_json_on_literals utf8_valid_len is_utf8 chars
-returns-clause-nothing c = refl
-
-pub returns-clause-last : goal.returns-clause-last
-unfolding serde_json_on_literals utf8_valid_len is_utf8 chars
-returns-clause-last c = refl
+returns c = record { checked = refl; absent = refl; text = refl; truth = refl; nothing = refl; last = refl }

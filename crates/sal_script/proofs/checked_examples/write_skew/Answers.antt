@@ -14,10 +14,9 @@ use Rattle.sal_rules.specs.Rules.{is_there}
 use Rattle.sal_data.specs.Written.{scalar_json, node_json, runs_of}
 use Rattle.sal_script.proofs.checked_examples.write_skew.Goals as goal
 
-pub returns-clause-checked : goal.returns-clause-checked
+pub returns : goal.returns
 unfolding read_path steps one_more named entered predicates predicate subject name single said closest first through_plain from_list is_there digits chars escape_byte scalar_json node_json runs_of
-returns-clause-checked c = simp (type_scalar, own_json, type_json_of, layer_for, out-roll-YangType)
-
-pub returns-clause-unchecked : goal.returns-clause-unchecked
-unfolding read_path steps one_more named entered predicates predicate subject name single said closest first through_plain from_list is_there digits chars escape_byte scalar_json node_json runs_of
-returns-clause-unchecked c = simp (type_scalar, own_json, type_json_of, layer_for, out-roll-YangType)
+returns c = record {
+  checked = simp (type_scalar, own_json, type_json_of, layer_for, out-roll-YangType);
+  unchecked = simp (type_scalar, own_json, type_json_of, layer_for, out-roll-YangType);
+}

@@ -14,10 +14,9 @@ use Rattle.sal_rules.specs.Rules.{is_there}
 use Rattle.sal_data.specs.Written.{scalar_json, node_json, runs_of}
 use Rattle.sal_script.proofs.examples.merges_and_deletes.Goals as goal
 
-pub returns-clause-merge : goal.returns-clause-merge
+pub returns : goal.returns
 unfolding read_path steps one_more named entered predicates predicate subject name single said closest first through_plain from_list is_there digits chars escape_byte scalar_json node_json runs_of
-returns-clause-merge c = simp (type_scalar, own_json, type_json_of, layer_for, out-roll-YangType)
-
-pub returns-clause-delete : goal.returns-clause-delete
-unfolding read_path steps one_more named entered predicates predicate subject name single said closest first through_plain from_list is_there digits chars escape_byte scalar_json node_json runs_of
-returns-clause-delete c = simp (type_scalar, own_json, type_json_of, layer_for, out-roll-YangType)
+returns c = record {
+  merge = simp (type_scalar, own_json, type_json_of, layer_for, out-roll-YangType);
+  delete = simp (type_scalar, own_json, type_json_of, layer_for, out-roll-YangType);
+}

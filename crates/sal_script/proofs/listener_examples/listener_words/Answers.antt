@@ -8,34 +8,6 @@ use Rattle.sal_json.specs.Written.{type_json_of, layer_for}
 use Rattle.sal_data.specs.Written.{scalar_json, node_json, runs_of}
 use Rattle.sal_script.proofs.listener_examples.listener_words.Goals as goal
 
-pub returns-clause-opened : goal.returns-clause-opened
+pub returns : goal.returns
 unfolding digits chars escape_byte scalar_json node_json runs_of
-returns-clause-opened c = simp (type_json_of, layer_for, out-roll-YangType)
-
-pub returns-clause-root : goal.returns-clause-root
-unfolding digits chars escape_byte scalar_json node_json runs_of
-returns-clause-root c = refl
-
-pub returns-clause-batch : goal.returns-clause-batch
-unfolding digits chars escape_byte scalar_json node_json runs_of
-returns-clause-batch c = simp (type_json_of, layer_for, out-roll-YangType)
-
-pub returns-clause-mirror : goal.returns-clause-mirror
-unfolding digits chars escape_byte scalar_json node_json runs_of
-returns-clause-mirror c = refl
-
-pub returns-clause-mark : goal.returns-clause-mark
-unfolding digits chars escape_byte scalar_json node_json runs_of
-returns-clause-mark c = refl
-
-pub returns-clause-no_listener : goal.returns-clause-no_listener
-unfolding digits chars escape_byte scalar_json node_json runs_of
-returns-clause-no_listener c = refl
-
-pub returns-clause-too_many : goal.returns-clause-too_many
-unfolding digits chars escape_byte scalar_json node_json runs_of
-returns-clause-too_many c = refl
-
-pub returns-clause-no_device : goal.returns-clause-no_device
-unfolding digits chars escape_byte scalar_json node_json runs_of
-returns-clause-no_device c = refl
+returns c = record { opened = simp (type_json_of, layer_for, out-roll-YangType); root = refl; batch = simp (type_json_of, layer_for, out-roll-YangType); mirror = refl; mark = refl; no_listener = refl; too_many = refl; no_device = refl }

@@ -1,7 +1,7 @@
 -- Each name of a module names at most one RPC and one notification: they are at the top level, where the tree's pass compares their names.
 use Rattle.sal_build.specs.Readable.{has_own_places}
 use Rattle.sal_build.proofs.Grown.{AreGrown, built-grown}
-use Rattle.std.proofs.Common.{◌≡◌, ℕ, ◌+◌, ◌<◌, Bool, true, false, not, ◌&&◌, IsTrue, List, [], ◌∷◌, map, take, length, Option, Some, None, refl, sym, ap, ◌∙◌, subst, inl, inr, arith}
+use Rattle.std.proofs.Common.{◌≡◌, ℕ, ◌+◌, ◌<◌, Bool, true, false, not, ◌&&◌, IsTrue, List, [], ◌∷◌, take, length, Option, Some, None, refl, sym, ap, ◌∙◌, subst, inl, inr, arith}
 use Rattle.std.specs.Prelude.{◌||◌, option_map, unwrap_or, is_none, if◌then◌else◌}
 use Rattle.std.specs.List.{list_all, list_any, slice_get}
 use Rattle.std.proofs.lemmas.Bool.{cases_Bool}
@@ -13,7 +13,6 @@ use Rattle.sal_module.specs.Modules.{stmt_at}
 use Rattle.sal_module.specs.Statements.{argument_of}
 use Rattle.sal_grouping.proofs.DataParents.{data-stop}
 use Rattle.sal_grouping.proofs.Parts.{TreeNode, TreeRow}
-use Rattle.sal_grouping.specs.declared.forest.Branch.{Branch}
 use Rattle.sal_grouping.specs.declared.forest.Implied.{Implied}
 use Rattle.sal_grouping.specs.declared.forest.Implied.TheVariants as implied
 use Rattle.sal_grouping.specs.Augments as tree
@@ -28,14 +27,13 @@ use Rattle.sal_schema.specs.Kinds.{kind_eq}
 use Rattle.sal_schema.specs.Names.{is_called, are_distinct, named, name_of_parts, kind_at, kind_names}
 use Rattle.sal_schema.specs.Table.{all_from}
 use Rattle.sal_schema.proofs.Conjuncts.{and_first, and_second}
-use Rattle.sal_module_table.specs.Build.{table_of}
 use Rattle.sal_module_table.specs.Nodes.{kind_among, kind_in, argument_in, name_in, has}
 use Rattle.sal_module_table.specs.Nodes as nodes
 use Rattle.sal_module_table.specs.Table.{info_of}
 use Rattle.sal_build.specs.Laws.{CallNamesDiffer}
 use Rattle.sal_build.proofs.Built.{IsBuiltOn, built_on, nodes_of}
 use Rattle.sal_build.proofs.Distinct.{called-same, true-is, all-more, pairwise, pairs, are_apart, distinct-pairs}
-use Rattle.sal_build.proofs.DistinctNodes.{each-same, each-infos, all-two, is_fit, nodes-fit, is_fresh, fresh-from, is_double, none-double, is_itself, is_known, known-fresh, same-keys}
+use Rattle.sal_build.proofs.DistinctNodes.{each-same, each-infos, all-two, is_fit, nodes-fit, is_fresh, fresh-from, is_double, none-double, is_itself, is_known, known-fresh, same-keys, forest_of, table_over}
 use Rattle.sal_build.proofs.HeldRows.{is_call, rows-held}
 use Rattle.sal_build.proofs.LoneCalls.{calls-alone, is_alone_in}
 use Rattle.sal_build.proofs.NamedNodes.{none-fits}
@@ -170,12 +168,6 @@ module _ (kind : Kind) (keyword : Keyword) (calls : IsKindOfCalls kind keyword) 
     abbrev rows : List TreeRow
     rows = rows_of stmts
 
-    abbrev forest : List Branch
-    forest = map (branch_of rows) all
-
-    abbrev table : SchemaTable
-    table = table_of stmts forest
-
     seen-row : (k : ℕ) (side : Option Implied) (row : Option TreeRow) → slice_get rows k ≡ row → IsTrue (is_seed side (option_map (λ (row : TreeRow). row.keyword) row))
         → IsSeen kind keyword (stmt_at stmts (source_of row) (place_of row)) side (option_map (λ (row : TreeRow). row.keyword) row) (unwrap_or (option_map (λ (row : TreeRow). row.name) row) [])
     seen-row k side None e h = absurd (wrong (sym (none-fits side) ∙ h))
@@ -187,7 +179,7 @@ module _ (kind : Kind) (keyword : Keyword) (calls : IsKindOfCalls kind keyword) 
     abbrev name_at : ℕ → TreeNode → List Named
     name_at k node = if is_keyword keyword (tree.kind_of rows node) then named None node.module (tree.name_of rows node) k ∷ [] else []
 
-    same-name : (k : ℕ) (node : TreeNode) → k < length all → IsTrue (is_fit stmts owns all grown k node) → kind_at kind k (info_of stmts forest k (branch_of rows node)) ≡ name_at k node
+    same-name : (k : ℕ) (node : TreeNode) → k < length all → IsTrue (is_fit stmts owns all grown k node) → kind_at kind k (info_of stmts (forest_of stmts all) k (branch_of rows node)) ≡ name_at k node
     same-name k node h fit =
         let view = seen-row node.row node.implied (slice_get rows node.row) refl (and_second (is_before k node.parent) (is_seed node.implied (keyword_at rows node.row)) fit) in
         elim (cases_Bool (is_keyword keyword (tree.kind_of rows node))) [
@@ -250,7 +242,7 @@ module _ (kind : Kind) (keyword : Keyword) (calls : IsKindOfCalls kind keyword) 
     alone : (k : ℕ) (node : TreeNode) → IsTrue (are_distinct (name_at k node))
     alone k node = elim (cases_Bool (is_keyword keyword (tree.kind_of rows node))) [ inl t ↦ rw t refl | inr f ↦ rw f refl ]
 
-    calls-distinct : IsTrue (list_all (is_alone_in rows) all) → child_faults rows all ≡ [] → IsTrue (are_distinct (kind_names kind table))
+    calls-distinct : IsTrue (list_all (is_alone_in rows) all) → child_faults rows all ≡ [] → IsTrue (are_distinct (kind_names kind (table_over stmts all)))
     calls-distinct lone quiet =
         let fresh = fresh-from stmts owns all grown [] all 0 refl refl (nodes-fit stmts owns all grown) quiet in
         let news = all-more (is_fresh stmts owns all grown) (λ k node. not (list_any (is_double stmts owns all grown node) (take k all))) 0 all (λ k node less h. none-double stmts owns all grown k node h) fresh in
@@ -259,8 +251,8 @@ module _ (kind : Kind) (keyword : Keyword) (calls : IsKindOfCalls kind keyword) 
         let good = all-two (is_known stmts owns all grown) (λ k node. is_none node.parent || not (is_call (tree.kind_of rows node))) 0 all known top in
         let apart = pairwise-both is_good (λ i x j y. not (is_double stmts owns all grown y x)) 0 all good (pairs (is_double stmts owns all grown) all [] all 0 refl refl news) in
         let names = distinct-pairs name_at (and_both is_good (λ i x j y. not (is_double stmts owns all grown y x))) alone apart-two 0 all apart in
-        let same = each-infos stmts forest (kind_at kind) (branch_of rows) 0 all
-        ∙ each-same (λ k node. kind_at kind k (info_of stmts forest k (branch_of rows node))) name_at (is_fit stmts owns all grown) (length all) (λ k node h fit. same-name k node h fit) 0 all (omega arith) (nodes-fit stmts owns all grown) in
+        let same = each-infos stmts (forest_of stmts all) (kind_at kind) (branch_of rows) 0 all
+        ∙ each-same (λ k node. kind_at kind k (info_of stmts (forest_of stmts all) k (branch_of rows node))) name_at (is_fit stmts owns all grown) (length all) (λ k node h fit. same-name k node h fit) 0 all (omega arith) (nodes-fit stmts owns all grown) in
         subst (λ (list : List Named). IsTrue (are_distinct list)) (sym same) names
 
 pub call-names-differ-on : (stmts : List Stmt) (nodes : List TreeNode) (table : SchemaTable) → IsTrue (list_all has_own_places stmts) → IsBuiltOn stmts nodes table → AreGrown stmts nodes → IsTrue (list_all (is_alone_in (rows_of stmts)) nodes)

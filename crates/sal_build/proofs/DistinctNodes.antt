@@ -184,15 +184,22 @@ pairwise-with good r i (x ∷ xs) h k =
 
 -- ---- the tree
 
+-- the branches of the nodes, and their table
+abbrev pub forest_of : List Stmt → List TreeNode → List Branch
+forest_of stmts all = map (branch_of (rows_of stmts)) all
+
+abbrev pub table_over : List Stmt → List TreeNode → SchemaTable
+table_over stmts all = table_of stmts (forest_of stmts all)
+
 module _ (stmts : List Stmt) (owns : AreOwn stmts (rows_of stmts)) (all : List TreeNode) (grown : AreGrown stmts all) where
   abbrev rows : List TreeRow
   rows = rows_of stmts
 
   abbrev forest : List Branch
-  forest = map (branch_of rows) all
+  forest = forest_of stmts all
 
   abbrev table : SchemaTable
-  table = table_of stmts forest
+  table = table_over stmts all
 
   -- its parent is before it, and its statement makes a node
   abbrev pub is_fit : ℕ → TreeNode → Bool

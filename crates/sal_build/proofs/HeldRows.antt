@@ -1,26 +1,25 @@
 -- The substatements of statements: the profile allows them there.
-use Rattle.std.proofs.Common.{◌≡◌, ℕ, zero, suc, ◌+◌, ◌-◌, ◌<◌, Bool, true, false, not, ◌&&◌, ◌==◌, IsTrue, List, [], ◌∷◌, ◌++◌, fold, take, length, Option, Some, None, refl, sym, ap, ◌∙◌, subst, inl, inr, arith, append_assoc, append-nil}
+use Rattle.std.proofs.Common.{◌≡◌, ℕ, zero, suc, ◌+◌, ◌-◌, ◌<◌, Bool, true, false, not, ◌&&◌, IsTrue, List, [], ◌∷◌, ◌++◌, fold, take, length, Option, Some, None, refl, sym, ap, ◌∙◌, subst, inl, inr, arith, append_assoc, append-nil}
 use Rattle.std.specs.Prelude.{◌||◌, is_none, option_map, if◌then◌else◌}
 use Rattle.std.specs.List.{list_all, flat_map, enumerate_from, slice_get}
 use Rattle.std.specs.Option.{option_map_or}
 use Rattle.std.proofs.lemmas.Bool.{cases_Bool, or_left, or_right}
-use Rattle.std.proofs.lemmas.Bool.Decides.{nat_tests}
 use Rattle.sal_stmt.specs.declared.stmt.Stmt.{Stmt, out-Stmt}
 use Rattle.sal_module.specs.declared.keyword.Keyword.{Keyword}
 use Rattle.sal_module.specs.declared.keyword.Keyword.TheVariants as word
 use Rattle.sal_module.specs.Keywords.{keyword_of, word_of, words}
-use Rattle.sal_module.specs.Profile.{is_prefixed, allows, allows_keyword, is_judged, level_faults, tree_faults, module_faults, sub_faults}
+use Rattle.sal_module.specs.Profile.{is_prefixed, allows, allows_keyword, is_judged, tree_faults, module_faults, sub_faults}
 use Rattle.sal_module.specs.Statements.{is_named, subs_of}
 use Rattle.sal_module.specs.Table.{rule_of, rule_at}
 use Rattle.sal_module.specs.Table as table
-use Rattle.sal_module.proofs.Levels.{tree_faults-more, below}
+use Rattle.sal_module.proofs.Levels.{below}
 use Rattle.sal_grouping.proofs.Parts.{TreeRow}
 use Rattle.sal_grouping.specs.Growth.{is_node}
 use Rattle.sal_grouping.specs.Rows.{part_of, part_among, row_of, with_row, with_rows, rows_of, top_of, is_keyword, keyword_at}
 use Rattle.sal_schema.proofs.Conjuncts.{and_first, and_second}
 use Rattle.sal_build.proofs.NamedModules.{rule-named}
 use Rattle.sal_build.proofs.NamedNodes.{rule_given, rule-by}
-use Rattle.sal_build.proofs.OwnStatements.{part-is, not-extension, subs-quiet, sub-judged, module-quiet}
+use Rattle.sal_build.proofs.OwnStatements.{part-is, not-extension, split-quiet, subs-quiet, sub-judged, module-quiet}
 use Rattle.sal_build.proofs.Quiet.{both, front-nil}
 use Rattle.sal_build.proofs.Shapes.{all-joined}
 use Rattle.sal_build.proofs.Entries.{wrong}
@@ -210,11 +209,7 @@ module _ (m : ℕ) where
         | None ↦ λ e. record { more = []; is = sym (append-nil rows); held = h }
         | Some keyword ↦ λ e.
             let some : is_none (part_of stmt) ≡ false = ap is_none e in
-            let less : suc levels - 1 ≡ levels = omega arith in
-            let more : (suc levels == 0) ≡ false = grind (arith, nat_tests) in
-            let split : level_faults m stmt ++ flat_map (below m levels stmt) (subs_of stmt) ≡ [] =
-            ap (λ n. level_faults m stmt ++ flat_map (below m n stmt) (subs_of stmt)) (sym less) ∙ sym (tree_faults-more m (suc levels) stmt more) ∙ quiet some in
-            let (level, rest) = front-nil (level_faults m stmt) (flat_map (below m levels stmt) (subs_of stmt)) split in
+            let (level, rest) = split-quiet m levels stmt (quiet some) in
             let plain = not-extension stmt some in
             let row = row_of m around stmt keyword in
             let first = one-held rows row h (stands keyword e) in

@@ -26,7 +26,7 @@ use Rattle.sal_build.proofs.Distinct.{false-is}
 use Rattle.sal_build.proofs.HeldRows.{AreHeld, is_held, is_call, is_leafy, adds, can_stand, got-front, got-last, top-keyword}
 use Rattle.sal_build.proofs.LoneCalls.{got-all, flat-all, all-map-to, stands-in, inside-all, used-grouping}
 use Rattle.sal_build.proofs.Quiet.{both}
-use Rattle.sal_build.proofs.Shapes.{fits, is_shape, all-joined, all-found}
+use Rattle.sal_build.proofs.Shapes.{fits, is_shape, all-joined, all-found, grow-zero, grow-suc}
 use Rattle.sal_build.proofs.Entries.{wrong}
 
 -- ---- which nodes can be below which
@@ -350,14 +350,6 @@ module _ (stmts : List Stmt) (held : AreHeld (rows_of stmts)) where
     is : result ≡ forest ++ more
     linked : AreLinked result
 
-  grow-zero : (owner : ℕ) (parent : Option ℕ) (forest : List TreeNode) (seeds : List Seed) → grow 0 rows named owner parent forest seeds ≡ forest
-  unfolding grow
-  grow-zero owner parent forest seeds = refl
-
-  grow-suc : (n owner : ℕ) (parent : Option ℕ) (forest : List TreeNode) (seeds : List Seed) → grow (suc n) rows named owner parent forest seeds ≡ fold (with_seed n rows named owner parent) forest seeds
-  unfolding grow
-  grow-suc n owner parent forest seeds = refl
-
   fold-grows : (owner : ℕ) (step : List TreeNode → Seed → List TreeNode) (parent : Option ℕ)
       → ((f : List TreeNode) (seed : Seed) → IsTrue (would_link owner parent f seed) → AreLinked f → Grows f (step f seed)) → (forest : List TreeNode) (seeds : List Seed)
       → IsTrue (list_all (would_link owner parent forest) seeds) → AreLinked forest → Grows forest (fold step forest seeds)
@@ -370,9 +362,9 @@ module _ (stmts : List Stmt) (held : AreHeld (rows_of stmts)) where
       record { more = first.more ++ later.more; is = later.is ∙ ap (λ (xs : List TreeNode). xs ++ later.more) first.is ∙ append_assoc forest first.more later.more; linked = later.linked }
 
   grow-linked : (n owner : ℕ) (parent : Option ℕ) (forest : List TreeNode) (seeds : List Seed) → IsTrue (list_all (would_link owner parent forest) seeds) → AreLinked forest → Grows forest (grow n rows named owner parent forest seeds)
-  grow-linked zero owner parent forest seeds ok h = record { more = []; is = grow-zero owner parent forest seeds ∙ sym (append-nil forest); linked = subst AreLinked (sym (grow-zero owner parent forest seeds)) h }
+  grow-linked zero owner parent forest seeds ok h = record { more = []; is = grow-zero rows named owner parent forest seeds ∙ sym (append-nil forest); linked = subst AreLinked (sym (grow-zero rows named owner parent forest seeds)) h }
   grow-linked (suc n) owner parent forest seeds ok h =
-      subst (Grows forest) (sym (grow-suc n owner parent forest seeds)) (fold-grows owner (with_seed n rows named owner parent) parent (λ f seed would good.
+      subst (Grows forest) (sym (grow-suc n rows named owner parent forest seeds)) (fold-grows owner (with_seed n rows named owner parent) parent (λ f seed would good.
       let node = node_of owner parent seed in
       let next = f ++ node ∷ [] in
       let linked = one-linked f node good (and_second (suits seed) (is_linked f node) would) in

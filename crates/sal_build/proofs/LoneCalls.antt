@@ -23,7 +23,7 @@ use Rattle.sal_schema.proofs.Conjuncts.{and_first, and_second}
 use Rattle.sal_build.proofs.HeldRows.{AreHeld, is_held, is_call, can_stand}
 use Rattle.sal_build.proofs.OwnStatements.{middle-got}
 use Rattle.sal_build.proofs.Quiet.{both}
-use Rattle.sal_build.proofs.Shapes.{fits, is_shape, all-joined, all-found, seeds-fit, below-fits}
+use Rattle.sal_build.proofs.Shapes.{fits, is_shape, all-joined, all-found, seeds-fit, below-fits, grow-zero, grow-suc}
 use Rattle.sal_build.proofs.Uniques.{position-at}
 use Rattle.sal_build.proofs.Entries.{wrong}
 use Rattle.sal_build.proofs.DistinctNodes.{got-map}
@@ -271,14 +271,6 @@ module _ (stmts : List Stmt) (held : AreHeld (rows_of stmts)) where
   alone-node owner (Some p) (k, Some implied.Input) h = refl
   alone-node owner (Some p) (k, Some implied.Output) h = refl
 
-  grow-zero : (owner : ℕ) (parent : Option ℕ) (forest : List TreeNode) (seeds : List Seed) → grow 0 rows named owner parent forest seeds ≡ forest
-  unfolding grow
-  grow-zero owner parent forest seeds = refl
-
-  grow-suc : (n owner : ℕ) (parent : Option ℕ) (forest : List TreeNode) (seeds : List Seed) → grow (suc n) rows named owner parent forest seeds ≡ fold (with_seed n rows named owner parent) forest seeds
-  unfolding grow
-  grow-suc n owner parent forest seeds = refl
-
   fold-good : (step : List TreeNode → Seed → List TreeNode) (parent : Option ℕ) → ((f : List TreeNode) (seed : Seed) → IsTrue (suits parent seed) → Good f → Good (step f seed)) → (forest : List TreeNode) (seeds : List Seed)
       → IsTrue (list_all (suits parent) seeds) → Good forest → Good (fold step forest seeds)
   fold-good step parent one forest [] ok h = h
@@ -286,9 +278,9 @@ module _ (stmts : List Stmt) (held : AreHeld (rows_of stmts)) where
       fold-good step parent one (step forest seed) seeds (and_second (suits parent seed) (list_all (suits parent) seeds) ok) (one forest seed (and_first (suits parent seed) (list_all (suits parent) seeds) ok) h)
 
   grow-good : (n owner : ℕ) (parent : Option ℕ) (forest : List TreeNode) (seeds : List Seed) → IsTrue (list_all (suits parent) seeds) → Good forest → Good (grow n rows named owner parent forest seeds)
-  grow-good zero owner parent forest seeds ok h = subst Good (sym (grow-zero owner parent forest seeds)) h
+  grow-good zero owner parent forest seeds ok h = subst Good (sym (grow-zero rows named owner parent forest seeds)) h
   grow-good (suc n) owner parent forest seeds ok h =
-      subst Good (sym (grow-suc n owner parent forest seeds)) (fold-good (with_seed n rows named owner parent) parent (λ f seed suit good.
+      subst Good (sym (grow-suc n rows named owner parent forest seeds)) (fold-good (with_seed n rows named owner parent) parent (λ f seed suit good.
       let node = node_of owner parent seed in
       let more = all-joined is_alone f (node ∷ []) good (both (is_alone node) true (alone-node owner parent seed (and_second (fits rows seed) (is_right parent seed) suit)) refl) in
       grow-good n owner (Some (length f)) (f ++ node ∷ []) (below rows named seed)

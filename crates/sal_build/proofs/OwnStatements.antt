@@ -72,6 +72,14 @@ subs-quiet m stmt plain e =
     let (entries, subs) = front-nil (flat_map (entry_faults m stmt) rule.entries) (flat_map (sub_faults m stmt rule) (subs_of stmt)) front in
     subs
 
+-- nothing found at more levels: nothing at the statement, and nothing below
+pub split-quiet : (m levels : ℕ) (stmt : Stmt) → tree_faults m (suc levels) stmt ≡ [] → (level_faults m stmt ≡ []) × (flat_map (below m levels stmt) (subs_of stmt) ≡ [])
+split-quiet m levels stmt quiet =
+    let less : suc levels - 1 ≡ levels = omega arith in
+    let more : (suc levels == 0) ≡ false = grind (arith, nat_tests) in
+    front-nil (level_faults m stmt) (flat_map (below m levels stmt) (subs_of stmt))
+    (ap (λ n. level_faults m stmt ++ flat_map (below m n stmt) (subs_of stmt)) (sym less) ∙ sym (tree_faults-more m (suc levels) stmt more) ∙ quiet)
+
 pub sub-judged : (m : ℕ) (parent sub : Stmt) → is_named word.Extension parent ≡ false → is_none (part_of sub) ≡ false → sub_faults m parent (rule_of (out-Stmt parent).keyword) sub ≡ [] → is_judged parent sub ≡ true
 sub-judged m parent sub plain part e =
     elim (part_of sub) as (λ p. part_of sub ≡ p → is_none p ≡ false → is_judged parent sub ≡ true) [
@@ -187,11 +195,7 @@ module _ (deep : ℕ → Stmt → Bool) (down : GoesDown deep) (stmts : List Stm
   more-own (suc levels) around rows blocks stmt outer differ depth quiet finds own = elim (cases_Bool (is_none (part_of stmt))) [
     | inl none ↦ rw none own
     | inr some ↦
-        let less : suc levels - 1 ≡ levels = omega arith in
-        let more : (suc levels == 0) ≡ false = grind (arith, nat_tests) in
-        let split : level_faults m stmt ++ flat_map (below m levels stmt) (subs_of stmt) ≡ [] =
-        ap (λ n. level_faults m stmt ++ flat_map (below m n stmt) (subs_of stmt)) (sym less) ∙ sym (tree_faults-more m (suc levels) stmt more) ∙ quiet some in
-        let (level, rest) = front-nil (level_faults m stmt) (flat_map (below m levels stmt) (subs_of stmt)) split in
+        let (level, rest) = split-quiet m levels stmt (quiet some) in
         let plain = not-extension stmt some in
         let sound : IsSound deep m stmt = record { levels = suc levels; quiet = quiet some; depth = depth; plain = plain } in
         rw some (fold-own levels stmt blocks (Some (length rows)) plain

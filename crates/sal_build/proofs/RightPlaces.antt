@@ -11,7 +11,6 @@ use Rattle.sal_module.specs.declared.keyword.Keyword.TheVariants as word
 use Rattle.sal_module.specs.Keywords.{keyword_of}
 use Rattle.sal_module.specs.Modules.{stmt_at}
 use Rattle.sal_grouping.proofs.Parts.{TreeNode, TreeRow}
-use Rattle.sal_grouping.specs.declared.forest.Branch.{Branch}
 use Rattle.sal_grouping.specs.declared.forest.Implied.{Implied}
 use Rattle.sal_grouping.specs.declared.forest.Implied.TheVariants as implied
 use Rattle.sal_grouping.specs.Augments as tree
@@ -24,13 +23,12 @@ use Rattle.sal_schema.specs.Kinds.{has_type, is_choice, is_case, is_rpc, is_noti
 use Rattle.sal_schema.specs.Table.{all_from}
 use Rattle.sal_schema.specs.Valid.{agree, is_under, stands_right}
 use Rattle.sal_schema.proofs.Conjuncts.{and_first, and_second}
-use Rattle.sal_module_table.specs.Build.{table_of}
 use Rattle.sal_module_table.specs.Nodes.{kind_among, kind_in, has}
 use Rattle.sal_module_table.specs.Nodes as nodes
 use Rattle.sal_module_table.specs.Table.{info_of, infos_from}
 use Rattle.sal_build.specs.Laws.{NodesStandRight}
 use Rattle.sal_build.proofs.Built.{IsBuiltOn, built_on, nodes_of}
-use Rattle.sal_build.proofs.DistinctNodes.{is_fit, nodes-fit, got-map}
+use Rattle.sal_build.proofs.DistinctNodes.{is_fit, nodes-fit, got-map, forest_of, table_over}
 use Rattle.sal_build.proofs.HeldRows.{is_call, is_leafy, rows-held}
 use Rattle.sal_build.proofs.LinkedNodes.{is_param, can_be_under, can_be_on_top, is_linked_in, nodes-linked}
 use Rattle.sal_build.proofs.LoneCalls.{is_alone_in, calls-alone}
@@ -76,12 +74,6 @@ module _ (stmts : List Stmt) (owns : AreOwn stmts (rows_of stmts)) (all : List T
   abbrev rows : List TreeRow
   rows = rows_of stmts
 
-  abbrev forest : List Branch
-  forest = map (branch_of rows) all
-
-  abbrev table : SchemaTable
-  table = table_of stmts forest
-
   abbrev kind : TreeNode → Kind
   kind node = nodes.kind_of stmts (branch_of rows node)
 
@@ -105,12 +97,12 @@ module _ (stmts : List Stmt) (owns : AreOwn stmts (rows_of stmts)) (all : List T
   alone node seen h = ap (λ b. not b || is_none node.parent) seen.call ∙ turned (is_none node.parent) (is_call (tree.kind_of rows node)) h
 
   abbrev fits_there : NodeInfo → Bool
-  fits_there info = (not (is_under has_type table info) && agree (is_case info.kind) (is_under is_choice table info)) && agree (is_parameters info.kind) (is_under is_rpc table info)
+  fits_there info = (not (is_under has_type (table_over stmts all) info) && agree (is_case info.kind) (is_under is_choice (table_over stmts all) info)) && agree (is_parameters info.kind) (is_under is_rpc (table_over stmts all) info)
 
   -- with the parent that was found
   below-right : (k : ℕ) (node : TreeNode) (parent : Option ℕ) → node.parent ≡ parent → IsLike (kind node) (tree.kind_of rows node)
       → IsTrue (option_map_or (λ p. option_map_or (λ (above : TreeNode). can_be_under (tree.kind_of rows above) (tree.kind_of rows node)) (slice_get all p) false) parent (can_be_on_top (tree.kind_of rows node)))
-      → IsTrue (fits_there (info_of stmts forest k (branch_of rows node)))
+      → IsTrue (fits_there (info_of stmts (forest_of stmts all) k (branch_of rows node)))
   below-right k node None e seen h =
       let cases = and_first (not (is_keyword word.Case (tree.kind_of rows node))) (not (is_param (tree.kind_of rows node))) h in
       let param = and_second (not (is_keyword word.Case (tree.kind_of rows node))) (not (is_param (tree.kind_of rows node))) h in
@@ -123,26 +115,26 @@ module _ (stmts : List Stmt) (owns : AreOwn stmts (rows_of stmts)) (all : List T
       neither true h = h
       neither false h = refl
   below-right k node (Some p) e seen h =
-      elim (slice_get all p) as (λ o. slice_get all p ≡ o → IsTrue (option_map_or (λ (above : TreeNode). can_be_under (tree.kind_of rows above) (tree.kind_of rows node)) o false) → IsTrue (fits_there (info_of stmts forest k (branch_of rows node)))) [
+      elim (slice_get all p) as (λ o. slice_get all p ≡ o → IsTrue (option_map_or (λ (above : TreeNode). can_be_under (tree.kind_of rows above) (tree.kind_of rows node)) o false) → IsTrue (fits_there (info_of stmts (forest_of stmts all) k (branch_of rows node)))) [
         | None ↦ λ at h. absurd (wrong h)
         | Some above ↦ λ at h.
             let fit : IsTrue (is_fit stmts owns all grown (0 + p) above) = at-place (is_fit stmts owns all grown) 0 p all above (nodes-fit stmts owns all grown) at in
-            let info = info-got stmts forest 0 p forest (branch_of rows above) (got-map (branch_of rows) all p above at) in
+            let info = info-got stmts (forest_of stmts all) 0 p (forest_of stmts all) (branch_of rows above) (got-map (branch_of rows) all p above at) in
             let over = λ (test : Kind → Bool). ap (λ (o : Option NodeInfo). option_map_or test (option_map (λ (info : NodeInfo). info.kind) o) false) info in
             let pair = right-pair node above seen (like (0 + p) above fit) h in
             rw e ((λ i. (not (over has_type i) && agree (is_case (kind node)) (over is_choice i)) && agree (is_parameters (kind node)) (over is_rpc i)) ∙ pair)
       ] refl h
 
   infos-right : (k : ℕ) (some : List TreeNode) → IsTrue (all_from (is_fit stmts owns all grown) k some) → IsTrue (list_all (is_alone_in rows) some) → IsTrue (list_all (is_linked_in rows all) some)
-      → IsTrue (list_all (stands_right table) (infos_from stmts forest k (map (branch_of rows) some)))
+      → IsTrue (list_all (stands_right (table_over stmts all)) (infos_from stmts (forest_of stmts all) k (map (branch_of rows) some)))
   infos-right k [] fit lone linked = refl
   infos-right k (node ∷ some) fit lone linked =
       let here = and_first (is_fit stmts owns all grown k node) (all_from (is_fit stmts owns all grown) (k + 1) some) fit in
       let seen = like k node here in
-      let info = info_of stmts forest k (branch_of rows node) in
+      let info = info_of stmts (forest_of stmts all) k (branch_of rows node) in
       let placed : IsTrue (fits_there info) = below-right k node node.parent refl seen (and_first (is_linked_in rows all node) (list_all (is_linked_in rows all) some) linked) in
       let top = alone node seen (and_first (is_alone_in rows node) (list_all (is_alone_in rows) some) lone) in
-      both (stands_right table info) (list_all (stands_right table) (infos_from stmts forest (k + 1) (map (branch_of rows) some))) (both (fits_there info) (not (is_rpc (kind node) || is_notification (kind node)) || is_none node.parent) placed top)
+      both (stands_right (table_over stmts all) info) (list_all (stands_right (table_over stmts all)) (infos_from stmts (forest_of stmts all) (k + 1) (map (branch_of rows) some))) (both (fits_there info) (not (is_rpc (kind node) || is_notification (kind node)) || is_none node.parent) placed top)
       (infos-right (k + 1) some (and_second (is_fit stmts owns all grown k node) (all_from (is_fit stmts owns all grown) (k + 1) some) fit) (and_second (is_alone_in rows node) (list_all (is_alone_in rows) some) lone)
       (and_second (is_linked_in rows all node) (list_all (is_linked_in rows all) some) linked))
 

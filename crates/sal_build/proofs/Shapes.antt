@@ -18,6 +18,17 @@ use Rattle.sal_schema.proofs.Conjuncts.{and_first, and_second}
 use Rattle.sal_build.proofs.Quiet.{both}
 use Rattle.sal_build.proofs.Entries.{wrong}
 
+-- ---- growth
+
+pub grow-zero : (rows : List TreeRow) (named : List (Option ℕ)) (owner : ℕ) (parent : Option ℕ) (forest : List TreeNode) (seeds : List Seed) → grow 0 rows named owner parent forest seeds ≡ forest
+unfolding grow
+grow-zero rows named owner parent forest seeds = refl
+
+pub grow-suc : (n : ℕ) (rows : List TreeRow) (named : List (Option ℕ)) (owner : ℕ) (parent : Option ℕ) (forest : List TreeNode) (seeds : List Seed)
+    → grow (suc n) rows named owner parent forest seeds ≡ fold (with_seed n rows named owner parent) forest seeds
+unfolding grow
+grow-suc n rows named owner parent forest seeds = refl
+
 -- ---- lists
 
 pub all-joined : {X : Type 0} (test : X → Bool) (xs ys : List X) → IsTrue (list_all test xs) → IsTrue (list_all test ys) → IsTrue (list_all test (xs ++ ys))
@@ -147,19 +158,11 @@ module _ (test : ℕ → TreeNode → Bool) (rows : List TreeRow) (named : List 
       let (rest, longer) = fold-good step parent one (step forest seed) seeds (before-more (length forest) (length (step forest seed)) parent more before) (and_second (fits rows seed) (list_all (fits rows) seeds) ok) here in
       (rest, omega arith)
 
-  grow-zero : (parent : Option ℕ) (forest : List TreeNode) (seeds : List Seed) → grow 0 rows named owner parent forest seeds ≡ forest
-  unfolding grow
-  grow-zero parent forest seeds = refl
-
-  grow-suc : (n : ℕ) (parent : Option ℕ) (forest : List TreeNode) (seeds : List Seed) → grow (suc n) rows named owner parent forest seeds ≡ fold (with_seed n rows named owner parent) forest seeds
-  unfolding grow
-  grow-suc n parent forest seeds = refl
-
   pub grow-good : (n : ℕ) (parent : Option ℕ) (forest : List TreeNode) (seeds : List Seed) → IsTrue (is_before (length forest) parent) → IsTrue (list_all (fits rows) seeds) → IsTrue (all_from test 0 forest)
       → IsTrue (all_from test 0 (grow n rows named owner parent forest seeds)) × (length forest ≤ length (grow n rows named owner parent forest seeds))
-  grow-good zero parent forest seeds before ok h = rw (grow-zero parent forest seeds) (h, omega arith)
+  grow-good zero parent forest seeds before ok h = rw (grow-zero rows named owner parent forest seeds) (h, omega arith)
   grow-good (suc n) parent forest seeds before ok h =
-      rw (grow-suc n parent forest seeds) (fold-good (with_seed n rows named owner parent) parent (λ f seed early fit good.
+      rw (grow-suc n rows named owner parent forest seeds) (fold-good (with_seed n rows named owner parent) parent (λ f seed early fit good.
       let count = length-append f (node_of owner parent seed ∷ []) in
       let here = from-last test 0 f (node_of owner parent seed) good (each (0 + length f) parent seed (before-more (length f) (0 + length f) parent (omega arith) early) fit) in
       let (rest, longer) = grow-good n (Some (length f)) (f ++ node_of owner parent seed ∷ []) (below rows named seed) (before-last (length f) (length (f ++ node_of owner parent seed ∷ [])) (omega arith)) (below-fits rows named seed fit) here in

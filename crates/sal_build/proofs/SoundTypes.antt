@@ -13,14 +13,14 @@ use Rattle.sal_module.specs.Keywords as keywords
 use Rattle.sal_module.specs.Profile.{is_prefixed, allows, is_judged, sub_faults, level_faults, tree_faults, module_faults}
 use Rattle.sal_module.specs.Statements.{is_named, subs_of, all_named, argument_of}
 use Rattle.sal_module.specs.Table.{rule_of}
-use Rattle.sal_module.proofs.Levels.{tree_faults-last, tree_faults-more, below}
+use Rattle.sal_module.proofs.Levels.{tree_faults-last, below}
 use Rattle.sal_schema.proofs.Conjuncts.{and_first, and_second}
-use Rattle.sal_typedefs.specs.Names.{name_of, is_builtin, target, types_in, rests_on}
+use Rattle.sal_typedefs.specs.Names.{name_of, is_builtin, types_in, rests_on}
 use Rattle.sal_typedefs.specs.Scopes.{Site, within, local, module_of, is_typedef_of, closest, blocks_of, typedef_of}
 use Rattle.sal_build.specs.Readable.{is_shallow}
 use Rattle.sal_build.proofs.Differing.{found-passes}
 use Rattle.sal_build.proofs.NamedModules.{rule-named}
-use Rattle.sal_build.proofs.OwnStatements.{IsSound, AreSound, GoesDown, subs-quiet}
+use Rattle.sal_build.proofs.OwnStatements.{IsSound, AreSound, GoesDown, split-quiet, subs-quiet}
 use Rattle.sal_build.proofs.Quiet.{front-nil}
 
 -- ---- lists
@@ -109,9 +109,7 @@ nothing-in (y ∷ ys) x e among = let more : (length (y ∷ ys) == 0) ≡ false 
 
 pub level-quiet : (m levels : ℕ) (stmt : Stmt) → tree_faults m levels stmt ≡ [] → level_faults m stmt ≡ []
 level-quiet m zero stmt e = sym (tree_faults-last m stmt) ∙ e
-level-quiet m (suc levels) stmt e =
-    let more : (suc levels == 0) ≡ false = grind (arith, nat_tests) in
-    (front-nil (level_faults m stmt) (flat_map (below m (suc levels - 1) stmt) (subs_of stmt)) (sym (tree_faults-more m (suc levels) stmt more) ∙ e)).0
+level-quiet m (suc levels) stmt e = (split-quiet m levels stmt e).0
 
 allowed-judged : (m : ℕ) (parent sub : Stmt) → is_named word.Extension parent ≡ false → is_prefixed (out-Stmt sub).keyword ≡ false → sub_faults m parent (rule_of (out-Stmt parent).keyword) sub ≡ [] → is_judged parent sub ≡ true
 allowed-judged m parent sub plain bare e = elim (cases_Bool (allows (rule_of (out-Stmt parent).keyword) (out-Stmt sub).keyword)) [
@@ -129,11 +127,7 @@ sub-judged : (m levels : ℕ) (parent sub : Stmt) → tree_faults m levels paren
     → is_prefixed (out-Stmt sub).keyword ≡ false → IsJudged m sub
 sub-judged m zero parent sub quiet depth plain among bare = absurd (nothing-in (subs_of parent) sub (shallow-last parent depth) among)
 sub-judged m (suc levels) parent sub quiet depth plain among bare =
-    let less : suc levels - 1 ≡ levels = omega arith in
-    let more : (suc levels == 0) ≡ false = grind (arith, nat_tests) in
-    let split : level_faults m parent ++ flat_map (below m levels parent) (subs_of parent) ≡ [] =
-    ap (λ n. level_faults m parent ++ flat_map (below m n parent) (subs_of parent)) (sym less) ∙ sym (tree_faults-more m (suc levels) parent more) ∙ quiet in
-    let (level, rest) = front-nil (level_faults m parent) (flat_map (below m levels parent) (subs_of parent)) split in
+    let (level, rest) = split-quiet m levels parent quiet in
     let allowed = quiet-among (sub_faults m parent (rule_of (out-Stmt parent).keyword)) (subs_of parent) sub (subs-quiet m parent plain level) among in
     let judged = allowed-judged m parent sub plain bare allowed in
     let here = quiet-among (below m levels parent) (subs_of parent) sub rest among in

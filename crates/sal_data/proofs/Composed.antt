@@ -18,7 +18,7 @@ use Rattle.sal_data.specs.declared.fault.DataFault.TheVariants.{TooDeep, WrongSh
 use Rattle.sal_data.specs.Members.{member_node}
 use Rattle.sal_data.specs.Read.{Reading, followed, marked, longer, leaf_rows, key_step, item_step, one_more, items_rows, node_rows, object_rows, members_rows, entries_rows, same_step}
 use Rattle.serde_json.specs.View.{items_of}
-use Rattle.sal_data.proofs.Listed.{In, In-left, In-right, In-either}
+use Rattle.sal_data.proofs.Listed.{In, In-front, In-back, In-either}
 use Rattle.sal_data.proofs.ObjectMembers.{Has}
 use Rattle.sal_data.proofs.RunsApart.{step_is}
 
@@ -190,8 +190,8 @@ module _ (rows : List Row) where
         by one rest k d m q c (inl (a, b)) found e =
             let same : m ≡ one.node = same_node m one.node (sym found ∙ ap (member_node table parent path) a ∙ one.found) in
             let there = all_behind path (Node one.node) (node_rows table one.node (path ++ Node one.node ∷ []) json) one.gives q c (ap (λ k. cell rows (path ++ Node k ∷ q)) (sym same) ∙ e) in
-            In-left (at_row (path ++ Node m ∷ q) c) one.gives.read rest.read (subst (λ k. In (at_row (path ++ Node k ∷ q) c) one.gives.read) (sym same) there)
-        by one rest k d m q c (inr h) found e = In-right (at_row (path ++ Node m ∷ q) c) one.gives.read rest.read (rest.all k d m q c h found e)
+            In-front (at_row (path ++ Node m ∷ q) c) one.gives.read rest.read (subst (λ k. In (at_row (path ++ Node k ∷ q) c) one.gives.read) (sym same) there)
+        by one rest k d m q c (inr h) found e = In-back (at_row (path ++ Node m ∷ q) c) one.gives.read rest.read (rest.all k d m q c h found e)
 
   -- ---- entries
 
@@ -241,8 +241,8 @@ module _ (rows : List Row) where
         by : (rest : EntriesGive (s ∷ seen) steps more) (t : Step) (q : List Step) (c : Cell) → In t (s ∷ steps) → cell rows (path ++ t ∷ q) ≡ Some c → In (at_row (path ++ t ∷ q) c) (one.gives.read ++ rest.read)
         by rest t q c (inl same) e =
             let there = all_behind path s (marked true (path ++ s ∷ []) (object_rows table (Some n) (path ++ s ∷ []) json)) one.gives q c (ap (λ u. cell rows (path ++ u ∷ q)) (sym same) ∙ e) in
-            In-left (at_row (path ++ t ∷ q) c) one.gives.read rest.read (subst (λ u. In (at_row (path ++ u ∷ q) c) one.gives.read) (sym same) there)
-        by rest t q c (inr h) e = In-right (at_row (path ++ t ∷ q) c) one.gives.read rest.read (rest.all t q c h e)
+            In-front (at_row (path ++ t ∷ q) c) one.gives.read rest.read (subst (λ u. In (at_row (path ++ u ∷ q) c) one.gives.read) (sym same) there)
+        by rest t q c (inr h) e = In-back (at_row (path ++ t ∷ q) c) one.gives.read rest.read (rest.all t q c h e)
 
     -- the JSON value of an entry of a leaf-list reads as its row
     pub record ItemGives (s : Step) (json : Data) : Type 0 where

@@ -31,7 +31,7 @@ use Rattle.sal_data.specs.Laws.{IsReadable, IsJson}
 use Rattle.sal_data.specs.Members.{member_name, member_node}
 use Rattle.sal_data.specs.Read.{Reading, followed, marked, longer, at_path, node_scalar, leaf_rows, key_value, key_values, key_step, item_step, one_more, items_rows, node_rows, object_rows, members_rows, entries_rows, of_array, of_object, of_other, same_step}
 use Rattle.sal_data.specs.Written.{scalar_json}
-use Rattle.sal_data.proofs.Listed.{In, In-left, In-right}
+use Rattle.sal_data.proofs.Listed.{In, In-front, In-back}
 use Rattle.sal_data.proofs.ObjectMembers.{Has}
 use Rattle.sal_data.proofs.RowsRead.{a_row}
 use Rattle.sal_data.proofs.RunsApart.{same_step-itself}
@@ -120,7 +120,7 @@ members_all table parent path (member k d ms) read name json e has =
       found = ap (member_node table parent path) called ∙ parts.found;
       rows = parts.rows;
       mine = ap (node_rows table parts.node (path ++ Node parts.node ∷ [])) is ∙ parts.mine;
-      among = λ row there. subst (λ (r : List Row). In row r) (sym parts.all) (In-left row parts.rows parts.more there);
+      among = λ row there. subst (λ (r : List Row). In row r) (sym parts.all) (In-front row parts.rows parts.more there);
     }
     by parts later (inr there) =
         let rest = later there in
@@ -129,7 +129,7 @@ members_all table parent path (member k d ms) read name json e has =
           found = rest.found;
           rows = rest.rows;
           mine = rest.mine;
-          among = λ row here. subst (λ (r : List Row). In row r) (sym parts.all) (In-right row parts.rows parts.more (rest.among row here));
+          among = λ row here. subst (λ (r : List Row). In row r) (sym parts.all) (In-back row parts.rows parts.more (rest.among row here));
         }
 
 -- ---- entries

@@ -11,7 +11,7 @@ use Rattle.sal_schema.specs.Fitting.{has_mark, has_own_row, cell_fits}
 use Rattle.sal_schema.specs.Paths.{fits_path, last_step, node_of}
 use Rattle.sal_schema.specs.Table.{keys_of}
 use Rattle.sal_data.specs.Laws.{HasReadable}
-use Rattle.sal_data.proofs.Listed.{In, In-left, In-right, In-either}
+use Rattle.sal_data.proofs.Listed.{In, In-front, In-back, In-either}
 
 abbrev pub a_row : List Step → Cell → Row
 a_row path c = record { path = path; cell = c }
@@ -98,7 +98,7 @@ module _ (table : SchemaTable) where
       passes = passes;
       is = h.is ∙ append_assoc path (s ∷ []) h.rest;
       fits = h.fits;
-      whole = λ u v e. subst (λ q. WholeIn (xs ++ ys) q) (append_assoc path (s ∷ []) u) (WholeIn-more xs (xs ++ ys) (λ r there. In-left r xs ys there) ((path ++ s ∷ []) ++ u) (h.whole u v e));
+      whole = λ u v e. subst (λ q. WholeIn (xs ++ ys) q) (append_assoc path (s ∷ []) u) (WholeIn-more xs (xs ++ ys) (λ r there. In-front r xs ys there) ((path ++ s ∷ []) ++ u) (h.whole u v e));
     }
 
     from_back : (row : Row) → BelowPath Q path ys row → BelowPath P path (xs ++ ys) row
@@ -108,7 +108,7 @@ module _ (table : SchemaTable) where
       passes = (apart h.first h.passes).1;
       is = h.is;
       fits = h.fits;
-      whole = λ u v e. WholeIn-more ys (xs ++ ys) (λ r there. In-right r xs ys there) (path ++ h.first ∷ u) (h.whole u v e);
+      whole = λ u v e. WholeIn-more ys (xs ++ ys) (λ r there. In-back r xs ys there) (path ++ h.first ∷ u) (h.whole u v e);
     }
 
     never_same : (a b : Row) → AtPath (path ++ s ∷ []) xs a → BelowPath Q path ys b → a.path ≡ b.path → ⊥

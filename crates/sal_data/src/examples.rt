@@ -1,4 +1,6 @@
 //! Examples, computed from the definitions.
+#![tactic(auto, unfolding(sal_schema::specs::Table::closest))]
+
 ghost use Rattle.std.specs.Prelude.{◌≡◌, ◌∷◌, [], codes};
 ghost use Rattle.serde_json.specs.Data.{array, no_items};
 ghost use Rattle.sal_types.specs.declared.value.Step.TheVariants.{Node};

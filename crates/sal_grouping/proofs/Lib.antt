@@ -4,7 +4,6 @@ pub mod Places
 pub mod IndexLists
 pub mod LookUps
 pub mod Rounds
-pub mod Paths
 pub mod Edges
 pub mod VisitLists
 pub mod FrameLists

@@ -1,21 +1,19 @@
 -- The names of a schema path, from one to the next.
-use Rattle.std.proofs.Common.{◌≡◌, ℕ, ◌+◌, ◌<◌, ◌≤◌, not, ◌==◌, List, [], ◌∷◌, length, take, drop, refl, inl, inr, arith}
-use Rattle.std.proofs.lemmas.Bool.{cases_Bool}
-use Rattle.std.specs.List.{slice_split, prefix_len}
-use Rattle.std.proofs.lemmas.List.Splits.{slice_split_first}
+use Rattle.std.proofs.Common.{◌≡◌, ℕ, ◌+◌, ◌<◌, ◌≤◌, List, [], ◌∷◌, length, take, drop, Option, Some, None, Bor, arith}
+use Rattle.std.proofs.lemmas.Str.Pattern.{IsSplitOnceResult}
+use Rattle.sal_types.proofs.Separated.{parted, part_len, parted-last, parted-more, parted-whole, parted-parts}
 
 abbrev pub names : List ℕ → List (List ℕ)
-names t = slice_split (λ c. c == 47) t
+names t = parted 47 t
 
-abbrev pub name_len : List ℕ → ℕ
-name_len t = prefix_len (λ c. not (c == 47)) t
+pub names-last : (t : List ℕ) → length t ≤ part_len 47 t → names t ≡ t ∷ []
+names-last = parted-last 47
 
-pub names-last : (t : List ℕ) → length t ≤ name_len t → names t ≡ t ∷ []
-names-last [] h = refl
-names-last (c ∷ t) h = elim (cases_Bool (c == 47)) [
-  | inl e ↦ let h' = rw e at h in absurd (omega arith)
-  | inr e ↦ let h' = rw e at h in rw (e, names-last t (omega arith)) refl
-]
+pub names-more : (t : List ℕ) → part_len 47 t < length t → names t ≡ take (part_len 47 t) t ∷ names (drop (part_len 47 t + 1) t)
+names-more = parted-more 47
 
-pub names-more : (t : List ℕ) → name_len t < length t → names t ≡ take (name_len t) t ∷ names (drop (name_len t + 1) t)
-names-more t h = slice_split_first (λ c. c == 47) t 0 h
+pub names-whole : (text : List ℕ) (r : Option (Bor (List ℕ) × Bor (List ℕ))) → IsSplitOnceResult 47 text r → r ≡ None → names text ≡ text ∷ []
+names-whole = parted-whole 47 (omega arith)
+
+pub names-parts : (text : List ℕ) (r : Option (Bor (List ℕ) × Bor (List ℕ))) → IsSplitOnceResult 47 text r → (x : Bor (List ℕ) × Bor (List ℕ)) → r ≡ Some x → names text ≡ x.0.now ∷ names x.1.now
+names-parts = parted-parts 47 (omega arith)

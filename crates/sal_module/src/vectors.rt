@@ -10,6 +10,7 @@ use crate::fault::Cause;
 use crate::keyword::Keyword;
 
 /// The examples as clauses. A call does nothing.
+#[tactic(auto, unfolding(sal_stmt::specs::Words::is_keyword, crate::specs::LeftOut::calls_deref_after))]
 pub fn examples()
     ensures whole { is_whole (codes "01") ≡ false }
     ensures integer { is_integer (codes "-2147483648") ≡ true }

@@ -2,6 +2,7 @@
 use Rattle.std.proofs.Common.{◌≡◌, ℕ, zero, suc, ◌+◌, ◌<◌, nat_lt, List, [], ◌∷◌, ◌++◌, length, get_or, Option, Some, None, refl, sym, ap, ◌∙◌, inl, inr, arith}
 use Rattle.std.proofs.lemmas.Bool.{cases_Bool}
 use Rattle.std.proofs.lemmas.Bool.Decides.{nat_tests}
+use Rattle.std.proofs.lemmas.Option.{slice_get-get_or}
 use Rattle.std.specs.List.{slice_get}
 use Rattle.std.specs.Option.{option_map_or}
 use Rattle.sal_grouping.specs.declared.forest.Branch.{Branch}
@@ -40,7 +41,7 @@ module _ {A : Type 0} (f : Branch → ℕ → A → A) (top : A) (forest : List 
       sym (known ∙ step (length forest) k ∙ ap (λ r. option_map_or (λ b. f b k (above (from_above f top forest) top k b.parent)) r top) at)
 
   -- one node more
-  pub inherited-more : (done : List A) (k : ℕ) (b : Branch) (next : A) → k < length forest → slice_get forest k ≡ Some b → length done ≡ k
+  inherited-more : (done : List A) (k : ℕ) (b : Branch) (next : A) → k < length forest → slice_get forest k ≡ Some b → length done ≡ k
       → ((m : ℕ) (d : A) → m < k → get_or done m d ≡ from_above f top forest m)
       → next ≡ f b k (above (λ p. get_or done p top) top k b.parent)
       → (m : ℕ) (d : A) → m < k + 1 → get_or (done ++ next ∷ []) m d ≡ from_above f top forest m
@@ -48,6 +49,15 @@ module _ {A : Type 0} (f : Branch → ℕ → A → A) (top : A) (forest : List 
       let here : next ≡ from_above f top forest k =
       is ∙ ap (f b k) (same-above (λ p. get_or done p top) (from_above f top forest) k b.parent (λ p less. so_far p top less)) ∙ from_above-step k b h at in
       table-last (from_above f top forest) done k next count here so_far
+
+  -- one node more, behind those that were done
+  pub inherited-pushed : (done after : List A) (k : ℕ) (d : Branch) (next : A) → k < length forest → length done ≡ k
+      → ((m : ℕ) (d : A) → m < k → get_or done m d ≡ from_above f top forest m)
+      → next ≡ f (get_or forest k d) k (above (λ p. get_or done p top) top k (get_or forest k d).parent)
+      → after ≡ done ++ next ∷ []
+      → (m : ℕ) (d : A) → m < k + 1 → get_or after m d ≡ from_above f top forest m
+  inherited-pushed done after k d next h count so_far is pushed m e less =
+      ap (λ xs. get_or xs m e) pushed ∙ inherited-more done k (get_or forest k d) next h (slice_get-get_or forest k d h) count so_far is m e less
 
   none-step : (k : ℕ) → inherited f top 0 forest k ≡ top
   unfolding inherited

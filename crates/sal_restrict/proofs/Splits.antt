@@ -1,9 +1,8 @@
 -- The parts of a text, from one to the next.
-use Rattle.std.proofs.Common.{◌≡◌, ℕ, ◌+◌, ◌<◌, ◌≤◌, not, ◌==◌, List, [], ◌∷◌, ◌++◌, length, take, drop, Option, Some, None, refl, ap, sym, ◌∙◌, inl, inr, append_assoc, arith}
-use Rattle.std.proofs.lemmas.Bool.{cases_Bool, cases_lt}
+use Rattle.std.proofs.Common.{◌≡◌, ℕ, ◌+◌, ◌<◌, ◌≤◌, List, [], ◌∷◌, ◌++◌, length, take, drop, Option, Some, None, refl, ap, sym, ◌∙◌, inl, inr, append_assoc}
+use Rattle.std.proofs.lemmas.Bool.{cases_lt}
 use Rattle.std.proofs.lemmas.List.{take_all}
-use Rattle.std.specs.List.{slice_split, prefix_len}
-use Rattle.std.proofs.lemmas.List.Splits.{slice_split_first}
+use Rattle.sal_types.proofs.Separated.{parted, part_len, parted-last, parted-more}
 use Rattle.sal_restrict.specs.declared.ranges.Part.{Part}
 use Rattle.sal_restrict.specs.declared.span.Span.{Span}
 use Rattle.sal_restrict.specs.Readings.{part_of, parts_of}
@@ -19,20 +18,16 @@ behind-onto done one None = refl
 behind-onto done one (Some more) = ap Some (sym (append_assoc done (one ∷ []) more))
 
 abbrev pub texts : List ℕ → List (List ℕ)
-texts t = slice_split (λ c. c == 124) t
+texts t = parted 124 t
 
 abbrev pub text_len : List ℕ → ℕ
-text_len t = prefix_len (λ c. not (c == 124)) t
+text_len t = part_len 124 t
 
 pub texts-last : (t : List ℕ) → length t ≤ text_len t → texts t ≡ t ∷ []
-texts-last [] h = refl
-texts-last (c ∷ t) h = elim (cases_Bool (c == 124)) [
-  | inl e ↦ let h' = rw e at h in absurd (omega arith)
-  | inr e ↦ let h' = rw e at h in rw (e, texts-last t (omega arith)) refl
-]
+texts-last = parted-last 124
 
 pub texts-more : (t : List ℕ) → text_len t < length t → texts t ≡ take (text_len t) t ∷ texts (drop (text_len t + 1) t)
-texts-more t h = slice_split_first (λ c. c == 124) t 0 h
+texts-more = parted-more 124
 
 pub parts-none : (digits : ℕ) (outer : Part) (t : List ℕ) → part digits outer (take (text_len t) t) ≡ None → parts digits outer (texts t) ≡ None
 parts-none digits outer t none = elim (cases_lt (text_len t) (length t)) [

@@ -1,4 +1,6 @@
 //! Examples, computed from the definitions.
+#![tactic(auto, unfolding(crate::specs::Table::closest))]
+
 ghost use Rattle.std.specs.Prelude.{◌≡◌, ◌∷◌, ◌++◌, [], Some, None, true, false, codes};
 ghost use Rattle.sal_types.specs.declared.value.Step.TheVariants.{Node, Key, Item};
 ghost use Rattle.sal_schema.specs.Examples as example;

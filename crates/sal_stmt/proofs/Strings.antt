@@ -1,5 +1,5 @@
 -- The content of quotes, from one byte to the next.
-use Rattle.std.proofs.Common.{◌≡◌, ℕ, zero, suc, ◌+◌, ◌-◌, ◌<◌, false, not, ◌==◌, List, [], ◌∷◌, ◌++◌, length, take, drop, get_or, Ok, Err, if◌then◌else◌, refl, sym, ap, ◌∙◌, inl, inr, arith, length-drop, get_or-drop, append_assoc}
+use Rattle.std.proofs.Common.{◌≡◌, ℕ, zero, suc, ◌+◌, ◌-◌, ◌<◌, false, not, ◌==◌, [], ◌∷◌, ◌++◌, length, take, drop, get_or, Ok, Err, if◌then◌else◌, refl, sym, ap, ◌∙◌, inl, inr, arith, length-drop, get_or-drop, append_assoc}
 use Rattle.std.proofs.lemmas.Bool.{cases_Bool}
 use Rattle.std.proofs.lemmas.Bool.Decides.{nat_tests}
 use Rattle.std.proofs.lemmas.List.{drop_more, drop-drop, take_more}
@@ -7,15 +7,8 @@ use Rattle.sal_stmt.specs.declared.fault.StmtFault.TheVariants.{BadToken, BadEsc
 use Rattle.sal_stmt.specs.Words.{Text, first, is_control}
 use Rattle.sal_stmt.specs.Quoted.{is_escape}
 use Rattle.sal_types.specs.Reading.{◌>>=◌, with_front}
-use Rattle.sal_stmt.specs.Text.{Read, place, is_quote, within, single, double, quoted, joined}
-
-pub with_front-with_front : {A : Type 0} (a b : List A) (r : Read (List A)) → with_front a (with_front b r) ≡ with_front (a ++ b) r
-with_front-with_front a b (Ok x) = ap (λ t. Ok (t, x.1)) (sym (append_assoc a b x.0))
-with_front-with_front a b (Err e) = refl
-
-pub with_front-nil : {A : Type 0} (r : Read (List A)) → with_front [] r ≡ r
-with_front-nil (Ok x) = refl
-with_front-nil (Err e) = refl
+use Rattle.sal_stmt.specs.Text.{place, is_quote, within, single, double, quoted, joined}
+pub use Rattle.sal_types.proofs.Shared.{with_front-with_front, with_front-nil}
 
 pub single_at : (whole t : Text) (start i : ℕ) → i < length t
     → single whole start (drop i t) ≡ (

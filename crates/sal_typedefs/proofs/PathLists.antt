@@ -1,10 +1,10 @@
 -- The texts of a path, from one to the next.
 use Rattle.std.proofs.Common.{◌≡◌, ℕ, ◌+◌, ◌<◌, ◌==◌, List, [], ◌∷◌, ◌++◌, length, take, drop, suc, Option, Some, None, Bor, option_map, false, refl, ap, sym, ◌∙◌, inl, inr, append_assoc, arith}
 use Rattle.std.proofs.lemmas.Bool.{cases_Bool}
-use Rattle.std.specs.List.{slice_split, prefix_len, position_or_len, before_first, after_first}
-use Rattle.std.proofs.lemmas.List.Splits.{slice_split_first}
+use Rattle.std.specs.List.{prefix_len, position_or_len, before_first, after_first}
 use Rattle.std.proofs.lemmas.Str.Pattern.{IsSplitOnceResult, split_once_first}
 use Rattle.sal_typedefs.specs.Names.{outside, inside, is_up}
+pub use Rattle.sal_module.proofs.Paths.{names as steps, names-whole as steps-whole, names-parts as steps-parts}
 
 -- ---- predicates
 
@@ -83,25 +83,6 @@ module _ (text : List ℕ) (r : Option (Bor (List ℕ) × Bor (List ℕ))) where
 
 -- ---- steps
 
-abbrev pub steps : List ℕ → List (List ℕ)
-steps t = slice_split (λ c. c == 47) t
-
 -- none of them leads up, where the first one does not
 pub stops : (step : List ℕ) (more : List (List ℕ)) → is_up step ≡ false → prefix_len is_up (step ∷ more) ≡ 0
 stops step more e = rw e refl
-
-steps-last : (t : List ℕ) → length t ≡ position_or_len (λ c. c == 47) t → steps t ≡ t ∷ []
-steps-last [] h = refl
-steps-last (c ∷ t) h = elim (cases_Bool (c == 47)) [
-  | inl e ↦ let h' = rw e at h in absurd (omega arith)
-  | inr e ↦ let h' = rw e at h in rw (e, steps-last t (omega arith)) refl
-]
-
-module _ (text : List ℕ) (r : Option (Bor (List ℕ) × Bor (List ℕ))) (split : IsSplitOnceResult 47 text r) where
-  pub steps-whole : r ≡ None → steps text ≡ text ∷ []
-  steps-whole is = let none = rw is at (split_once_first 47 text r split (omega arith)) in steps-last text (sym none)
-
-  pub steps-parts : (x : Bor (List ℕ) × Bor (List ℕ)) → r ≡ Some x → steps text ≡ x.0.now ∷ steps x.1.now
-  steps-parts x is =
-      let (inside, front, back) = rw is at (split_once_first 47 text r split (omega arith)) in
-      slice_split_first (λ c. c == 47) text 0 inside ∙ rw (front, back) refl

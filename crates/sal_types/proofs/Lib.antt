@@ -4,3 +4,4 @@ pub mod Trees
 pub mod Lists
 pub mod TrueParts
 pub mod Shared
+pub mod Separated

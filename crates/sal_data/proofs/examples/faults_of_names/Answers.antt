@@ -1,5 +1,4 @@
 -- Each example by computation.
-use Rattle.std.proofs.Common.{refl}
 use Rattle.std.specs.Fmt.{digits}
 use Rattle.std.specs.Str.{chars}
 use Rattle.sal_restrict.specs.declared.yang_type.YangType.TheViews.{out-roll-YangType}
@@ -7,18 +6,6 @@ use Rattle.sal_schema.specs.Table.{closest}
 use Rattle.sal_json.specs.Read.{type_scalar, own_json}
 use Rattle.sal_data.proofs.examples.faults_of_names.Goals as goal
 
-pub returns-clause-at_top : goal.returns-clause-at_top
-unfolding digits chars closest
-returns-clause-at_top c = refl
-
 pub returns-clause-of_another : goal.returns-clause-of_another
 unfolding digits chars closest
 returns-clause-of_another c = simp (type_scalar, own_json, out-roll-YangType)
-
-pub returns-clause-unknown : goal.returns-clause-unknown
-unfolding digits chars closest
-returns-clause-unknown c = refl
-
-pub returns-clause-needless : goal.returns-clause-needless
-unfolding digits chars closest
-returns-clause-needless c = refl

@@ -1,5 +1,4 @@
 -- Each example by computation.
-use Rattle.std.proofs.Common.{refl}
 use Rattle.std.specs.Fmt.{digits}
 use Rattle.std.specs.Str.{chars}
 use Rattle.sal_restrict.specs.declared.yang_type.YangType.TheViews.{out-roll-YangType}
@@ -18,10 +17,6 @@ returns-clause-other_order c = simp (type_scalar, own_json, out-roll-YangType)
 pub returns-clause-entry : goal.returns-clause-entry
 unfolding digits chars closest
 returns-clause-entry c = simp (type_scalar, own_json, out-roll-YangType)
-
-pub returns-clause-of_none : goal.returns-clause-of_none
-unfolding digits chars closest
-returns-clause-of_none c = refl
 
 pub returns-clause-number_first : goal.returns-clause-number_first
 unfolding digits chars closest

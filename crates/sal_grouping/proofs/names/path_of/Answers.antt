@@ -1,6 +1,6 @@
 use Rattle.std.proofs.Common.{◌≡◌, ◌∙◌, List, ℕ, [], ◌∷◌, map, drop, sym, ap, subst, IfOk}
 use Rattle.sal_grouping.specs.Groupings.{Step, step_of, path_of}
-use Rattle.sal_grouping.proofs.Paths.{names, names-whole, names-parts}
+use Rattle.sal_module.proofs.Paths.{names, names-whole, names-parts}
 use Rattle.sal_grouping.proofs.names.path_of.Goals as goal
 
 pub returns-in-None : goal.returns-in-None

@@ -1,6 +1,6 @@
 use Rattle.std.proofs.Common.{◌≡◌, ◌∙◌, rules, List, ℕ, [], ◌∷◌, ◌++◌, map, sym, ap, append_assoc}
 use Rattle.sal_grouping.specs.Groupings.{Step, step_of}
-use Rattle.sal_grouping.proofs.Paths.{names, names-whole, names-parts}
+use Rattle.sal_module.proofs.Paths.{names, names-whole, names-parts}
 use Rattle.sal_grouping.proofs.names.steps_of.Goals as goal
 
 pub returns-in-None : goal.returns-in-None

@@ -3,7 +3,7 @@ use Rattle.std.proofs.Common.{◌≡◌, ◌++◌, map, length}
 use denote.Text.{Utf8}
 use denote.Shadow.{shadow}
 use Rattle.sal_grouping.specs.Groupings.{step_of}
-use Rattle.sal_grouping.proofs.Paths.{names}
+use Rattle.sal_module.proofs.Paths.{names}
 use Rattle.sal_grouping.proofs.names.steps_of.Given as goal
 
 abbrev pub invariant-steps : goal.invariant-steps

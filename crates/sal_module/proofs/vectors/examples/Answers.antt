@@ -1,5 +1,4 @@
 -- Each example by computation.
-use Rattle.std.proofs.Common.{refl}
 use Rattle.sal_stmt.specs.Words.{is_keyword}
 use Rattle.sal_stmt.specs.declared.stmt.Stmt.TheViews.{out-roll-Stmt}
 use Rattle.sal_module.specs.Keywords.{words, keyword_of, word_of}
@@ -8,30 +7,6 @@ use Rattle.sal_module.specs.Statements.{all_named, subs_of, is_named}
 use Rattle.sal_module.specs.LeftOut.{calls_deref_after, bit_faults}
 use Rattle.sal_module.specs.Profile.{level_faults, tree_faults, module_faults}
 use Rattle.sal_module.proofs.vectors.examples.Goals as goal
-
-pub returns-clause-whole : goal.returns-clause-whole
-unfolding is_keyword calls_deref_after
-returns-clause-whole c = refl
-
-pub returns-clause-integer : goal.returns-clause-integer
-unfolding is_keyword calls_deref_after
-returns-clause-integer c = refl
-
-pub returns-clause-limit : goal.returns-clause-limit
-unfolding is_keyword calls_deref_after
-returns-clause-limit c = refl
-
-pub returns-clause-path : goal.returns-clause-path
-unfolding is_keyword calls_deref_after
-returns-clause-path c = refl
-
-pub returns-clause-deref : goal.returns-clause-deref
-unfolding is_keyword calls_deref_after
-returns-clause-deref c = refl
-
-pub returns-clause-name : goal.returns-clause-name
-unfolding is_keyword calls_deref_after
-returns-clause-name c = refl
 
 pub returns-clause-missing : goal.returns-clause-missing
 unfolding words keyword_of word_of rows rule_at rule_of calls_deref_after bit_faults level_faults tree_faults module_faults is_keyword

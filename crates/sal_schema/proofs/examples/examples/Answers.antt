@@ -1,5 +1,4 @@
 -- Each example by computation.
-use Rattle.std.proofs.Common.{refl}
 use Rattle.std.specs.Fmt.{digits}
 use Rattle.std.specs.Str.{chars}
 use Rattle.sal_restrict.specs.declared.yang_type.YangType.TheViews.{out-roll-YangType}
@@ -10,25 +9,9 @@ pub returns-clause-text : goal.returns-clause-text
 unfolding closest digits chars
 returns-clause-text c = simp out-roll-YangType
 
-pub returns-clause-of_another_module : goal.returns-clause-of_another_module
-unfolding closest digits chars
-returns-clause-of_another_module c = refl
-
-pub returns-clause-through_choices : goal.returns-clause-through_choices
-unfolding closest digits chars
-returns-clause-through_choices c = refl
-
-pub returns-clause-at_the_top : goal.returns-clause-at_the_top
-unfolding closest digits chars
-returns-clause-at_the_top c = refl
-
 pub returns-clause-entry : goal.returns-clause-entry
 unfolding closest digits chars
 returns-clause-entry c = simp out-roll-YangType
-
-pub returns-clause-whole_list : goal.returns-clause-whole_list
-unfolding closest digits chars
-returns-clause-whole_list c = refl
 
 pub returns-clause-long_key : goal.returns-clause-long_key
 unfolding closest digits chars

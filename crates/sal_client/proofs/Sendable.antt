@@ -29,7 +29,10 @@ use Rattle.regex_meta.specs.contracts.signs.Signs as Signs
 use Rattle.regex_meta.specs.contracts.program.Program as Program
 use Rattle.regex.specs.contracts.pattern.Pattern as RegexPattern
 use Rattle.regex.specs.contracts.string.regex.Regex as Regex
-use Rattle.sal_json.specs.contracts.patterns.Whole as Whole
+use Rattle.sal_json.specs.contracts.whole.Begun as Begun
+use Rattle.sal_json.specs.contracts.whole.Free as Free
+use Rattle.sal_json.specs.contracts.whole.Kind as Kind
+use Rattle.sal_json.specs.contracts.whole.Whole as Whole
 use Rattle.sal_json.specs.contracts.patterns.Patterns as Patterns
 use Rattle.sal_hub.proofs.Sendable.{Tx-send}
 
@@ -87,11 +90,29 @@ Regex-field_sync = search (RegexPattern-field_sync, crosses, maps.crosses, senda
 Regex-field_send : IsSend (Regex.the_field).row
 Regex-field_send = search (RegexPattern-field_send, crosses, maps.crosses, sendable) depth 40 fits 20000
 
+Begun-field_sync : IsSync (Begun.the_field).row
+Begun-field_sync = search (Program-field_sync, crosses, maps.crosses, sendable) depth 40 fits 20000
+
+Begun-field_send : IsSend (Begun.the_field).row
+Begun-field_send = search (Program-field_send, crosses, maps.crosses, sendable) depth 40 fits 20000
+
+Free-field_sync : IsSync (Free.the_field).row
+Free-field_sync = search (Regex-field_sync, crosses, maps.crosses, sendable) depth 40 fits 20000
+
+Free-field_send : IsSend (Free.the_field).row
+Free-field_send = search (Regex-field_send, crosses, maps.crosses, sendable) depth 40 fits 20000
+
+Kind-field_sync : IsSync (Kind.the_field).row
+Kind-field_sync = search (Begun-field_sync, Free-field_sync, crosses, maps.crosses, sendable) depth 40 fits 20000
+
+Kind-field_send : IsSend (Kind.the_field).row
+Kind-field_send = search (Begun-field_send, Free-field_send, crosses, maps.crosses, sendable) depth 40 fits 20000
+
 Whole-sync : IsSync Whole.the_row
-Whole-sync = search (Regex-field_sync, crosses, maps.crosses, sendable) depth 40 fits 20000
+Whole-sync = search (Kind-field_sync, crosses, maps.crosses, sendable) depth 40 fits 20000
 
 Whole-send : IsSend Whole.the_row
-Whole-send = search (Regex-field_send, crosses, maps.crosses, sendable) depth 40 fits 20000
+Whole-send = search (Kind-field_send, crosses, maps.crosses, sendable) depth 40 fits 20000
 
 pub Patterns-sync : IsSync Patterns.the_row
 Patterns-sync = search (Seq-here.the_send, Seq-here.the_sync, Whole-send, Whole-sync, crosses, maps.crosses, sendable) depth 40 fits 20000

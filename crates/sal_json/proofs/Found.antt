@@ -11,7 +11,7 @@ use Rattle.regex_hir.specs.Re.{Re}
 use Rattle.regex_hir.specs.Find.{find_str}
 use Rattle.regex_hir.specs.Meaning.{meaning}
 use Rattle.regex_hir.specs.declared.hir.Hir.{Hir}
-use Rattle.sal_json.specs.Patterns.{is_found, finds}
+use Rattle.sal_json.specs.Patterns.{is_found, finds, IsFoundAs}
 
 same_found : (a b : Re) → SameCaptures a b → (t : List ℕ) → All (λ x. x < 256) t → is_some (find_str a t 0) ≡ is_some (find_str b t 0)
 same_found a b same t bytes =
@@ -28,3 +28,7 @@ pub found_as_read : (source : List ℕ) (hir : Hir) (names : Names) (t : List �
 unfolding Reads finds
 found_as_read source hir names t bytes reads =
     found_as (read default_config (chars source)) hir names t (λ k d inside. rw (get_or_default t k d 0 inside) (bytes k)) reads
+
+pub found_as_tree : (source : List ℕ) (hir : Hir) (names : Names) → Reads default_config source hir names → IsFoundAs hir source
+unfolding Reads finds
+found_as_tree source hir names reads t bytes = found_as (read default_config (chars source)) hir names t bytes reads

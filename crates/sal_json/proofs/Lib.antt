@@ -1,4 +1,5 @@
 pub mod Alike
+pub mod Begun
 pub mod BitSets
 pub mod BitTexts
 pub mod Chosen

@@ -4,4 +4,5 @@ pub mod Named
 pub mod Numerals
 pub mod Patterns
 pub mod Read
+pub mod Wholes
 pub mod Written

@@ -1,5 +1,5 @@
 -- Patterns of texts (RFC 7950 section 9.4.5), in the grammar of `regex`. A pattern is matched with the whole text.
-use Rattle.std.specs.Prelude.{◌≡◌, MatchOption, ℕ, Bool, true, false, not, nat_lt, List, [], ◌∷◌, map, Option, Some, None, is_some, chars, if◌then◌else◌}
+use Rattle.std.specs.Prelude.{◌≡◌, ◌<◌, All, MatchOption, ℕ, Bool, true, false, not, nat_lt, List, [], ◌∷◌, map, Option, Some, None, is_some, chars, if◌then◌else◌}
 use Rattle.std.specs.List.{list_any, slice_get}
 use Rattle.std.specs.Option.{option_map_or}
 use Rattle.regex_syntax.specs.Verdict.{default_config}
@@ -7,6 +7,8 @@ use Rattle.regex_syntax.specs.Grammar.{Names, read}
 use Rattle.regex_syntax.specs.Brackets.{Nested}
 use Rattle.regex_hir.specs.Re.{Re}
 use Rattle.regex_hir.specs.Find.{find_str}
+use Rattle.regex_hir.specs.Meaning.{meaning}
+use Rattle.regex_hir.specs.declared.hir.Hir.{Hir}
 use Rattle.sal_restrict.specs.WholeTexts.{whole_text}
 use Rattle.sal_restrict.specs.declared.yang_type.Pattern.{Pattern}
 use Rattle.sal_restrict.specs.declared.yang_type.YangType.{YangType, out-YangType}
@@ -26,6 +28,10 @@ is_found (Some found) t = is_some (find_str found.0.value t 0)
 -- a pattern, as it is searched for, is found in the text
 unfoldable pub finds : Text → Text → Bool
 finds pattern t = is_found (read default_config (chars pattern)) t
+
+-- the tree is found where the pattern is
+abbrev pub IsFoundAs : Hir → Text → Type 0
+IsFoundAs hir pattern = (t : Text) → All (λ b. b < 256) t → is_some (find_str (meaning hir) t 0) ≡ finds pattern t
 
 -- all of the text matches the pattern
 abbrev pub matches : Text → Text → Bool

@@ -10,8 +10,8 @@ ghost use Rattle.sal_json.specs.Read as spec;
 
 use crate::fault::ScalarFault;
 use crate::numerals::whole_atom;
-use crate::patterns::Whole;
 use crate::texts_read::{is_own_text, text_atom};
+use crate::whole::Whole;
 use sal_restrict::{Ranges, YangType};
 use sal_schema::Schema;
 use sal_types::{Atom, NoMemory};

@@ -34,6 +34,7 @@ mod patterns;
 mod read;
 mod texts;
 mod texts_read;
+mod whole;
 mod write;
 mod written;
 

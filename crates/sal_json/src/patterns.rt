@@ -5,53 +5,13 @@ ghost use Rattle.sal_schema.specs.Versions.{BeginsWith, Extends};
 ghost use Rattle.sal_json.specs.Patterns as spec;
 
 use crate::fault::PatternsFault;
-use regex::{Error, Regex};
-use sal_restrict::{Pattern, YangType, whole_text};
+use crate::whole::Whole;
+use sal_restrict::{Pattern, YangType};
 use sal_schema::Schema;
 use sal_types::{NoMemory, Seq};
 use std::alloc::Global;
 use std::marker::Model;
 use std::sync::Arc;
-
-/// A pattern of a whole text. A contract sees the text of the pattern that is searched for.
-#[derive(Drop)]
-pub(crate) struct Whole {
-    regex: Regex,
-}
-
-impl Model for Whole {
-    ghost use Rattle.std.specs.Prelude.{List, ℕ, ◌≡◌};
-    ghost use Rattle.regex.specs.Strings.{regex_source, regex_config, IsReadFromSource};
-    ghost use Rattle.regex_syntax.specs.Verdict.{default_config};
-
-    ghost Value = { List ℕ };
-
-    ghost view = { λ a. regex_source a.regex };
-
-    ghost invariant = { λ a. (regex_config a.regex ≡ default_config) × IsReadFromSource a.regex };
-}
-
-impl Whole {
-    /// The pattern, or none if it is malformed.
-    fn new(alloc: Global, text: &str) -> Result<Option<Whole>, NoMemory>
-        ensures { IfOk result (λ found. spec.IsWhole text.now found) }
-    {
-        let whole = whole_text(alloc, text)?;
-        match Regex::new(alloc, whole.as_str()) {
-            Ok(regex) => Ok(Some(Whole { regex })),
-            Err(Error::Syntax(_)) => Ok(None),
-            Err(_) => Err(NoMemory),
-        }
-    }
-
-    /// Whether it is found in the text.
-    pub(crate) fn is_found(&self, alloc: Global, text: &str) -> Result<bool, NoMemory>
-        ensures { IfOk result (λ found. found ≡ spec.finds self.now text.now) }
-    {
-        let mut matcher = self.regex.matcher(alloc)?;
-        Ok(matcher.is_match(text))
-    }
-}
 
 /// The patterns that a type without members has, or a member of a union.
 pub(crate) type Wholes = Seq<Whole>;

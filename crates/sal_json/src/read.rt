@@ -10,8 +10,9 @@ ghost use Rattle.sal_json.specs.Read as spec;
 
 use crate::fault::ScalarFault;
 use crate::json_read::{is_own_json, json_atom};
-use crate::patterns::{Patterns, Whole, Wholes};
+use crate::patterns::{Patterns, Wholes};
 use crate::texts_read::{is_own_text, text_atom};
+use crate::whole::Whole;
 use sal_restrict::YangType;
 use sal_schema::Schema;
 use sal_types::{Atom, NoMemory, Value};

@@ -5,7 +5,7 @@ use Rattle.regex_syntax.specs.Verdict.{Reads}
 use Rattle.regex_hir.specs.Find.{find_str}
 use Rattle.sal_json.specs.Patterns.{finds}
 use Rattle.sal_json.proofs.Found.{found_as_read}
-use Rattle.sal_json.proofs.patterns.Whole.is_found.Goals as goal
+use Rattle.sal_json.proofs.whole.Free.is_found.Goals as goal
 
 pub returns : goal.returns
 returns c =

@@ -24,7 +24,7 @@ use Rattle.sal_history.specs.History.{Answered, base_on, began_by, begins_in, ch
 use Rattle.sal_history.specs.Numbered.{numbered}
 use Rattle.sal_history.specs.Submissions.{Base, Sent, failing, is_in, last_receipt}
 use Rattle.sal_history.specs.Versions.{schema_version}
-use Rattle.sal_history.proofs.Numbered.{numbered-at}
+use Rattle.sal_history.proofs.Numbered.{numbered-at, numbered-is}
 use Rattle.sal_hub.specs.declared.chain.Chain.{Chain}
 use Rattle.sal_hub.specs.declared.chains.Chains.{Chains}
 use Rattle.sal_hub.specs.declared.pipeline.Pipeline.{Pipeline}
@@ -256,7 +256,7 @@ module _ (journal : Noted) (p : Pipeline) (is : IsKept journal p) (cs : Chains) 
   last_domain n sub some here =
       let (s, there, mine) = last_from-passes 1 (is_in (Some chain.id)) (sents so_far) n (sym (sent_is journal p is cs are chain token sent sent_at) ∙ some) in
       let same : s ≡ sent_of sub = same_Some s (sent_of sub) (sym there ∙ here) in
-      let own : slice_get (chain_domains so_far) (chain.id - 1) ≡ Some s.base.domain = are.places.sent (n - 1) s there chain.id (of_chain chain.id s.base.chain mine) in
+      let own : slice_get (chain_domains so_far) (chain.id - 1) ≡ Some s.base.domain = numbered-is (chain_domains so_far) chain.id s.base.domain (are.places.sent (n - 1) s there chain.id (of_chain chain.id s.base.chain mine)) in
       same_Some sub.domain chain.domain (ap (λ (x : Sent). Some x.base.domain) (sym same) ∙ sym own ∙ token.1)
 
   some_pending : (o : Option ℕ) (n : ℕ) → pending_of (length p.outcomes.items) o ≡ Some n → o ≡ Some n
@@ -320,7 +320,7 @@ module _ (journal : Noted) (p : Pipeline) (is : IsKept journal p) (cs : Chains) 
   begun_in_place : IsInPlace so_far begun_base
   begun_in_place id of_chain =
       let same : chain.id ≡ id = same_Some chain.id id (sym starts.chain ∙ of_chain) in
-      ap (λ n. slice_get (chain_domains so_far) (n - 1)) (sym same) ∙ token.1 ∙ ap Some (sym number)
+      ap (λ n. numbered (chain_domains so_far) n) (sym same) ∙ numbered-at (chain_domains so_far) chain.id chain.domain token.0 token.1 ∙ ap Some (sym number)
 
   module _ (journal' : Noted) (log : journal'.log ≡ jotted journal.log client (ChainBegin chain.id mode)) where
     abbrev the_entry : Entry

@@ -1,14 +1,15 @@
 -- Transactions of a chain stay in the domain of the chain.
-use Rattle.std.proofs.Common.{◌≡◌, ℕ, ◌-◌, List, [], ◌∷◌, ◌++◌, Option, None, Some, refl, ap, sym, ◌∙◌, subst, inl, inr}
+use Rattle.std.proofs.Common.{◌≡◌, ℕ, List, [], ◌∷◌, ◌++◌, Option, None, Some, refl, ap, sym, ◌∙◌, subst, inl, inr}
 use Rattle.std.specs.Prelude.{slice_get, unwrap_or}
 use Rattle.std.specs.Option.{option_to_list}
 use Rattle.sal_history.specs.declared.call.Entry.{Entry}
 use Rattle.sal_history.specs.World.{Domain}
 use Rattle.sal_history.specs.History.{Answered, began_at, began_by, chain_domains, history, nowhere, opened_chain, reply_to, sent_by, sents}
 use Rattle.sal_history.specs.Submissions.{Base, Sent}
+use Rattle.sal_history.specs.Numbered.{numbered}
+use Rattle.sal_history.proofs.Numbered.{numbered-more}
 use Rattle.sal_hub.specs.Chains.{AreInPlace, IsInPlace}
 use Rattle.sal_hub.proofs.Histories.{chains-push, history-push, now_of, sents-push}
-use Rattle.sal_hub.proofs.Listed.{slice_get_more}
 use Rattle.sal_hub.proofs.Standing.{began_last, sent_last, submitted_base}
 
 module _ (world : List Domain) (log : List Entry) (e : Entry) (was : AreInPlace (history world log)) where
@@ -20,8 +21,8 @@ module _ (world : List Domain) (log : List Entry) (e : Entry) (was : AreInPlace 
 
   still : (b : Base) → IsInPlace before b → IsInPlace after b
   still b own = λ id of_chain.
-      ap (λ (ds : List ℕ). slice_get ds (id - 1)) (chains-push world log e)
-      ∙ slice_get_more (chain_domains before) (option_to_list (opened_chain e.call (reply_to world before e.client e.call))) (id - 1) b.domain (own id of_chain)
+      ap (λ (ds : List ℕ). numbered ds id) (chains-push world log e)
+      ∙ numbered-more (chain_domains before) (option_to_list (opened_chain e.call (reply_to world before e.client e.call))) id b.domain (own id of_chain)
 
   submitted : (s : Sent) → sent_by before e.call (reply_to world before e.client e.call) ≡ Some s → IsInPlace before s.base
   submitted s is =

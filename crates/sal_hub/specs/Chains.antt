@@ -6,6 +6,7 @@ use Rattle.sal_tx.specs.declared.tx.Submission.{Submission}
 use Rattle.sal_history.specs.declared.call.Call.{Call}
 use Rattle.sal_history.specs.declared.call.Call.TheVariants.{Begin, ChainBegin}
 use Rattle.sal_history.specs.History.{Answered, began_at, chain_domains, history, is_closed, last_begun, sents}
+use Rattle.sal_history.specs.Numbered.{numbered}
 use Rattle.sal_history.specs.Submissions.{Base, Sent, last_receipt}
 use Rattle.sal_hub.specs.declared.chains.Chains.{Chains}
 use Rattle.sal_hub.specs.declared.pipeline.Pipeline.{Pipeline}
@@ -24,7 +25,7 @@ pub record AreEven (chains : Chains) : Type 0 where
 
 -- if it has a chain, it is in the domain of that chain
 abbrev pub IsInPlace : List Answered → Base → Type 0
-IsInPlace answered base = (id : ℕ) → base.chain ≡ Some id → slice_get (chain_domains answered) (id - 1) ≡ Some base.domain
+IsInPlace answered base = (id : ℕ) → base.chain ≡ Some id → numbered (chain_domains answered) id ≡ Some base.domain
 
 -- each transaction of a chain, begun or submitted, is in the domain of the chain
 pub record AreInPlace (answered : List Answered) : Type 0 where

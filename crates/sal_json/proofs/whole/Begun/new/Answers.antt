@@ -10,6 +10,7 @@ pub invariant_of-result : goal.invariant_of-result
 invariant_of-result c =
     let p = c.args.parsed in
     let read = found_as_tree c.args.source.now p.hir (map (option_map string_bytes) p.names.items) c.requires.read in
-    let same = sym c.in_ok-program.ensures in
-    (subst (λ hir. IsFoundAs hir (string_bytes c.in_ok-source.source)) same (subst (IsFoundAs p.hir) (sym c.in_ok-source.ensures.ok) read),
-    ∣ subst (λ hir. IsAnchored true (meaning hir)) same c.requires.begun ∣₁)
+    let same = sym c.in_ok-program.ensures in (
+      subst (λ hir. IsFoundAs hir (string_bytes c.in_ok-source.source)) same (subst (IsFoundAs p.hir) (sym c.in_ok-source.ensures.ok) read),
+      ∣ subst (λ hir. IsAnchored true (meaning hir)) same c.requires.begun ∣₁,
+    )

@@ -1,9 +1,9 @@
 """Tries edits over the libraries that this machine keeps, many in one check: for `tools/edits --over`.
 
-The proof of a function rests on its body and on the contracts of what it calls, not on their bodies. So edits of different functions are made together
-in one copy of the crate, and a single check answers all of them, each by the line of the function that it changes. The copy leaves out the bodies and the
-proofs of the functions that no edit changes: the full check proves those. One of them is proved as it is, to show that the check ran. What does not
-follow from a check of several edits is asked again for the edit alone, at last in a copy that leaves out nothing.
+The proof of a function rests on its body and on the contracts of what it calls, not on their bodies. So edits of different functions are made
+together in one copy of the crate, and a single check answers all of them, each by the line of the function that it changes. The copy leaves out
+the bodies and the proofs of the functions that no edit changes: the full check proves those. One of them is proved as it is, to show that the
+check ran. What does not follow from a check of several edits is asked again for the edit alone, at last in a copy that leaves out nothing.
 """
 import os
 import re
@@ -30,17 +30,20 @@ CONTRACT = re.compile(r"\b(?:requires|ensures|ghost)\b")
 
 
 def read(path):
+    """Returns the text of the file."""
     with open(path, encoding="utf-8") as file:
         return file.read()
 
 
 def write(path, text):
+    """Writes the file, and makes its folders."""
     os.makedirs(os.path.dirname(path), exist_ok=True)
     with open(path, "w", encoding="utf-8") as file:
         file.write(text)
 
 
 def name_of(edit):
+    """Returns the name of the edit, without its folder."""
     return os.path.basename(edit).removesuffix(".edit")
 
 
@@ -81,7 +84,13 @@ def made(edit, crate, texts):
 # -- functions
 
 def module_of(path):
+    """Returns the module that a file of code holds, `lib` or `main` for the root."""
     return path.removeprefix("src/").removesuffix(".rt").replace("/", "::")
+
+
+def inside(module, name):
+    """Returns the path of an item of the module, below the crate."""
+    return name if module in ("lib", "main") else f"{module}::{name}"
 
 
 def type_of(line):
@@ -103,7 +112,7 @@ def functions_in(path, text):
         head = None if found else HEAD.match(line)
         if head:
             indent, begin, first = head[1], 0, number
-            found = f"{kind}::{head[2]}" if indent and kind else f"{module_of(path)}::{head[2]}".removeprefix("lib::").removeprefix("main::")
+            found = f"{kind}::{head[2]}" if indent and kind else inside(module_of(path), head[2])
         if not found:
             continue
         own = line.startswith(indent) and not line[len(indent) :].startswith((" ", "//"))
@@ -208,7 +217,7 @@ def left_out(texts, whole):
             home = homes.get(kind) if kind else ""
             if name in whole or home is None or "const fn" in lines[first]:
                 continue
-            paths.add(f"{home}::{name}".removeprefix("::").removeprefix("lib::").removeprefix("main::"))
+            paths.add(inside(home, name) if home else name)
             if begin < last:
                 lines[begin + 1 : last] = ["unreachable!()"]
         made_texts[path] = "\n".join(lines)
@@ -234,7 +243,8 @@ class Copy:
 
     def control(self, names):
         """Returns a function that none of these edits changes, one with a short proof, or an empty text."""
-        known = [name for path, text in code_of(self.name).items() for name, _, begin, last, _ in functions_in(path, text) if begin < last and name not in names]
+        code = code_of(self.name).items()
+        known = [it for path, text in code for it, _, begin, last, _ in functions_in(path, text) if begin < last and it not in names]
         sizes = {name: size for at, size in self.written().items() for name in known if f"/{at}".endswith(f"/{name.replace('::', '/')}")}
         return min(sizes, key=sizes.get, default="")
 
@@ -270,9 +280,11 @@ class Copy:
         for it in sorted(names):
             words += ["--only", it]
         start = os.times()
-        ran = subprocess.run([f"{KIT}/bin/rattle", "check", *words], cwd=self.room, stdin=subprocess.DEVNULL, capture_output=True, text=True, errors="replace")
+        how = {"stdin": subprocess.DEVNULL, "capture_output": True, "text": True, "errors": "replace"}
+        ran = subprocess.run([f"{KIT}/bin/rattle", "check", *words], cwd=self.room, **how)
         end = os.times()
-        self.seconds, self.checks = self.seconds + end.children_user + end.children_system - start.children_user - start.children_system, self.checks + 1
+        self.checks += 1
+        self.seconds += end.children_user + end.children_system - start.children_user - start.children_system
         output = ran.stdout + ran.stderr
         if "EDITS_LOG" in os.environ:
             with open(os.environ["EDITS_LOG"], "a", encoding="utf-8") as file:
@@ -389,7 +401,8 @@ def tried(crate, picked):
     """Prints the result of each edit of the crate, or of those that are picked by name, and returns how many were not refused."""
     every = [it for it in edits_of(crate, "edits") + edits_of(crate, "must-fail") if not picked or name_of(it) in picked]
     told = {it: ("NO LONGER APPLIES", why) for it in every for _, why in [made(it, crate, {})] if why}
-    told |= {it: ("NOT TRIED", "it changes more than functions: tools/edits NAME tries it") for it in every if it not in told and not functions_of(it, crate)}
+    odd = [it for it in every if it not in told and not functions_of(it, crate)]
+    told |= {it: ("NOT TRIED", "it changes more than functions: tools/edits NAME tries it") for it in odd}
     for it, (word, more) in told.items():
         print(f"{crate}/{name_of(it)}: {word}: {more}", flush=True)
     rest, failed = [it for it in every if it not in told], len(told)

@@ -4,6 +4,7 @@ A kit whose `rt ci` keeps what it proved has its own store. For the other kit, w
 all inputs of this version of the crate, also the libraries below it and the kit. So each clone of the repository finds what another clone proved.
 Nothing in the store counts as a verdict: the full check does not read it.
 """
+import fcntl
 import functools
 import hashlib
 import os
@@ -34,19 +35,34 @@ def repository(tool):
 
 def stand(tool, crate, own):
     """Puts each library below the crate into its place, from the kit's own store if it has one. Stops if some are not kept in this version, and names them."""
-    names = [it.name for it in crate.below() if not (given(it, own) if own else put(it))]
+    # (one at a time in this copy: a library that another run puts into its place is not whole for a moment)
+    with open(f"{ROOT}/crates.txt", encoding="utf-8") as lock:
+        fcntl.flock(lock, fcntl.LOCK_EX)
+        names = [it.name for it in crate.below() if not (given(it, own) if own else put(it))]
     if names:
         sys.exit(f"{tool}: not kept as they are: {' '.join(names)}. {'`rt ci`' if own else 'tools/parts --proofs'} with their names proves them")
 
 
 def given(crate, own):
-    """Puts the library into its place from the kit's own store, and returns whether it is kept."""
+    """Puts the library into its place from the kit's own store, unless it stands there as an earlier tool put it, and returns whether it is kept."""
+    key, noted_at = own.key(crate), f"{crate.folder}/out/rlib/kept"
+    was = noted(noted_at)
+    if was[:1] == [key] and was[2:] == [told(own, crate)]:
+        own.rlibs[crate.name], own.marks[crate.name] = was[1], own.mark(crate)
+        return True
     # (over a second name of the same file the store's entry would count as damaged, and be dropped)
     shutil.rmtree(f"{crate.folder}/out/rlib/{crate.name}.rlib", ignore_errors=True)
-    is_kept_there = own.give(crate, False, own.key(crate))
+    is_kept_there = own.give(crate, False, key)
     if is_kept_there:
         own.is_built(crate)
+        with open(noted_at, "w", encoding="utf-8") as file:
+            file.write(f"{key} {own.rlibs[crate.name]} {told(own, crate)}\n")
     return is_kept_there
+
+
+def told(own, crate):
+    """Returns a checksum of what tells whether something replaced the library in its place."""
+    return hashlib.sha256(repr(own.mark(crate)).encode()).hexdigest()
 
 
 # -- sums

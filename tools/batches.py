@@ -103,8 +103,8 @@ def type_of(line):
 
 
 def functions_in(path, text):
-    """Yields each function of a file of code: its path in the form of `rattle check --only`, the number of its first line, those of the lines with the
-    braces of its body (or of its last line twice, if these are not on two lines), and the type whose method it is, if it is one."""
+    """Yields each function of a file of code: its path in the form of `rattle check --only`, the number of its first line, those of the lines with
+    the braces of its body (or of its last line twice, if these are not on two lines), and the type whose method it is, if it is one."""
     kind, found = "", None
     for number, line in enumerate(text.split("\n")):
         if line.startswith(("impl", "trait", "pub trait", "}")):

@@ -26,6 +26,7 @@ pub mod ReadsAgain
 pub mod RisingSteps
 pub mod RowsRead
 pub mod RunsApart
+pub mod SortedRows
 pub mod Steps
 pub mod TreeParts
 pub mod Walking

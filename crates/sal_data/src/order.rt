@@ -75,13 +75,32 @@ fn joined(alloc: Global, rows: Vec<Row>) -> Result<Rows, NoMemory>
     }
 }
 
-/// The rows in the order of their paths; of rows with one path the last is used. Rows in ascending order stay as they are; for others
-/// it takes n log n comparisons of paths.
-pub(crate) fn in_order(alloc: Global, rows: Vec<Row>) -> Result<Rows, NoMemory>
+/// Sorts the rows by their paths. Rows with one path keep their order.
+fn sort(rows: &mut Vec<Row>) -> Result<(), NoMemory>
+    ensures { OnOk result (spec.in_order rows.new.items ≡ spec.in_order rows.old.items) }
+{
+    rows.sort_by(|a, b| a.path.cmp(&b.path))?;
+    Ok(())
+}
+
+/// The tree of rows that are sorted: the rows themselves, if no path is there twice.
+fn settled(alloc: Global, rows: Vec<Row>) -> Result<Rows, NoMemory>
     ensures { IfOk result (λ ordered. ordered ≡ spec.in_order rows.items) }
 {
     if rises(&rows) {
         return Ok(tree_of(rows));
     }
     joined(alloc, rows)
+}
+
+/// The rows in the order of their paths; of rows with one path the last is used. Rows in ascending order stay as they are; others are
+/// sorted, by n log n comparisons of paths.
+pub(crate) fn in_order(alloc: Global, mut rows: Vec<Row>) -> Result<Rows, NoMemory>
+    ensures { IfOk result (λ ordered. ordered ≡ spec.in_order rows.items) }
+{
+    if rises(&rows) {
+        return Ok(tree_of(rows));
+    }
+    sort(&mut rows)?;
+    settled(alloc, rows)
 }

@@ -1,20 +1,21 @@
 -- The cells of ordered changes at each path.
-use Rattle.std.proofs.Common.{◌≡◌, true, false, Bool, List, [], ◌∷◌, ◌++◌, Option, Some, None, refl, ap, sym, ◌∙◌, subst, if◌then◌else◌}
+use Rattle.std.proofs.Common.{◌≡◌, true, false, Bool, List, [], ◌∷◌, ◌++◌, Option, Some, None, refl, ap, sym, ◌∙◌, subst, if◌then◌else◌, length, get_or, ◌+◌, suc, arith}
 use Rattle.std.specs.Prelude.{T}
-use Rattle.std.specs.List.{fold}
+use Rattle.std.specs.List.{fold, AllAdjacentBelow, IsAllAdjacentAnswer}
 use Rattle.std.specs.Option.{option_or}
 use Rattle.std.specs.Ordering.{is_eq, is_lt, match_ordering}
 use Rattle.std.specs.declared.cmp.Ordering.TheVariants.{Less, Equal, Greater}
 use Rattle.std.specs.BTreeMap.{insert_entry}
 use Rattle.std.specs.FinMap.{find, put, is_sorted}
-use Rattle.std.specs.FinMap.Entries.{below_all, by_order, is_sorted-put, find-put}
+use Rattle.std.specs.FinMap.Entries.{below_all, by_order, is_sorted-put, find-put, same_entries}
 use Rattle.sal_types.specs.declared.value.Step.{Step}
 use Rattle.sal_types.specs.declared.value.Cell.{Cell}
-use Rattle.sal_types.specs.Order.{path_cmp, path_eq, path_cmp-IsTotalOrder}
+use Rattle.sal_types.specs.Order.{path_cmp, path_eq, path_cmp-IsTotalOrder, path_cmp-IsAntisymmetric}
+use Rattle.sal_types.proofs.Trees.{T-from_IsTrue, IsTrue-from_T}
 use Rattle.sal_rows.specs.declared.change.Change.{Change}
 use Rattle.sal_rows.specs.Changes.{change_at}
 use Rattle.sal_rows.proofs.Cells.{same_path}
-use Rattle.sal_rows.proofs.Differing.{first, second, marks as rising_marks, Rises, change_at-find}
+use Rattle.sal_rows.proofs.Differing.{first, second, both, marks as rising_marks, Rises, change_at-find}
 use Rattle.sal_rows.proofs.Patched.{less}
 use Rattle.sal_delta.specs.declared.ordered.Cells.{Cells}
 use Rattle.sal_delta.specs.Ordered.{marks, marks_of, put_mark, in_order}
@@ -80,6 +81,43 @@ rises-ordered xs ys e = subst (λ es. T (is_sorted path_cmp es)) (sym e ∙ same
 
 pub at-ordered : (xs ys : List Change) (r : List Step) → marks ys ≡ in_order xs → change_at ys r ≡ last_at xs r
 at-ordered xs ys r e = change_at-find ys r ∙ ap (find path_cmp r) (sym (same_marks ys) ∙ e) ∙ find_fold xs [] r ∙ or_none (last_at xs r)
+
+-- changes that rise are in order as they are
+pub ordered-rising : (cs : List Change) → Rises cs → marks cs ≡ in_order cs
+ordered-rising cs h =
+    same_entries path_cmp path_cmp-IsTotalOrder path_cmp-IsAntisymmetric (marks cs) (in_order cs) (subst (λ es. T (is_sorted path_cmp es)) (sym (same_marks cs)) h) (sorted_fold cs [] tt)
+    (λ r. ap (find path_cmp r) (same_marks cs) ∙ sym (change_at-find cs r) ∙ sym (last-rising cs r h) ∙ sym (or_none (last_at cs r)) ∙ sym (find_fold cs [] r))
+
+pub rises-marks : (cs : List Change) → is_sorted path_cmp (marks cs) ≡ true → Rises cs
+rises-marks cs e = subst (λ es. T (is_sorted path_cmp es)) (same_marks cs) (T-from_IsTrue _ e)
+
+below-less : (p q : List Step) (cs : List Change) → path_cmp p q ≡ Less → T (below_all path_cmp q (marks cs)) → T (below_all path_cmp p (marks cs))
+below-less p q [] lt h = tt
+below-less p q (c ∷ cs) lt h =
+    let qc : path_cmp q c.path ≡ Less = less _ (first (is_lt (path_cmp q c.path)) (below_all path_cmp q (marks cs)) h) in
+    both (is_lt (path_cmp p c.path)) _ (subst (λ o. T (is_lt o)) (sym (path_cmp-IsTotalOrder.trans p q c.path lt qc)) tt) (below-less p q cs lt (second (is_lt (path_cmp q c.path)) _ h))
+
+-- each is before the next
+abbrev Before : Change → Change → Type 0
+Before c d = true ≡ is_lt (path_cmp c.path d.path)
+
+later : (c d : Change) (cs : List Change) → AllAdjacentBelow Before (c ∷ d ∷ cs) (length (c ∷ d ∷ cs)) → AllAdjacentBelow Before (d ∷ cs) (length (d ∷ cs))
+later c d cs h k e l =
+    let at : suc k + 1 ≡ suc (k + 1) = omega arith in
+    subst (λ n. Before (get_or (c ∷ d ∷ cs) (suc k) e) (get_or (c ∷ d ∷ cs) n e)) at (h (suc k) e (omega arith))
+
+sorted-adjacent : (cs : List Change) → AllAdjacentBelow Before cs (length cs) → T (is_sorted path_cmp (marks cs))
+sorted-adjacent [] h = tt
+sorted-adjacent (c ∷ []) h = tt
+sorted-adjacent (c ∷ d ∷ cs) h =
+    let rest : T (is_sorted path_cmp (marks (d ∷ cs))) = sorted-adjacent (d ∷ cs) (later c d cs h) in
+    let here : T (is_lt (path_cmp c.path d.path)) = subst T (h 0 c (omega arith)) tt in
+    both (below_all path_cmp c.path (marks (d ∷ cs))) _ (both (is_lt (path_cmp c.path d.path)) _ here (below-less c.path d.path cs (less _ here) (first (below_all path_cmp d.path (marks cs)) _ rest))) rest
+
+-- what `is_sorted_by` says of them
+pub sorted-tested : (cs : List Change) (b : Bool) → IsAllAdjacentAnswer (λ (c d : Change) t. t ≡ is_lt (path_cmp c.path d.path)) cs b → b ≡ true → is_sorted path_cmp (marks cs) ≡ true
+sorted-tested cs true h e = IsTrue-from_T _ (sorted-adjacent cs h)
+sorted-tested cs false h e = cc
 
 -- a map's insertion puts
 pub marks-insert : (es : List (List Step × Cells)) (p : List Step) (v : Cells) → marks_of (insert_entry path_cmp es p v) ≡ put path_cmp p (v.before, v.after) (marks_of es)

@@ -1,6 +1,7 @@
 //! Changes put into the order of their paths.
-ghost use Rattle.std.specs.Prelude.{◌≡◌, IfOk, OnOk};
+ghost use Rattle.std.specs.Prelude.{◌≡◌, IfOk, OnOk, IsTrue};
 ghost use Rattle.std.specs.BTreeMap.{insert_entry};
+ghost use Rattle.std.specs.FinMap.{is_sorted};
 ghost use Rattle.sal_types.specs.Order.{path_cmp};
 ghost use Rattle.sal_delta.specs.Ordered.{marks, marks_of, in_order};
 
@@ -16,8 +17,42 @@ struct Cells {
     after: Option<Cell>,
 }
 
-/// The changes in the order of their paths, each path once. It takes n log n comparisons of paths for n changes.
-pub(crate) fn in_order(alloc: Global, list: Vec<Change>) -> Result<Vec<Change>, NoMemory>
+/// The changes in the order of their paths, each path once. It takes n log n comparisons of paths for n changes, or two for each if they
+/// are in this order.
+pub(crate) fn in_order(alloc: Global, mut list: Vec<Change>) -> Result<Vec<Change>, NoMemory>
+    ensures { IfOk result (λ v. marks v.items ≡ in_order list.items) }
+{
+    sort(&mut list)?;
+    settled(alloc, list)
+}
+
+/// Sorts the changes by their paths. Changes with one path keep their order.
+fn sort(list: &mut Vec<Change>) -> Result<(), NoMemory>
+    ensures { OnOk result (in_order list.new.items ≡ in_order list.old.items) }
+{
+    list.sort_by(|a, b| a.path.cmp(&b.path))?;
+    Ok(())
+}
+
+/// Changes that are sorted, each path once: the changes themselves, if no path is there twice.
+fn settled(alloc: Global, list: Vec<Change>) -> Result<Vec<Change>, NoMemory>
+    ensures { IfOk result (λ v. marks v.items ≡ in_order list.items) }
+{
+    if rises(&list) {
+        return Ok(list);
+    }
+    joined(alloc, list)
+}
+
+/// Whether the paths of the changes rise.
+fn rises(list: &[Change]) -> bool
+    ensures { IsTrue result → IsTrue (is_sorted path_cmp (marks list.now)) }
+{
+    list.is_sorted_by(|a, b| a.path < b.path)
+}
+
+/// The changes by a map of their paths; of those with one path the last is used.
+fn joined(alloc: Global, list: Vec<Change>) -> Result<Vec<Change>, NoMemory>
     ensures { IfOk result (λ v. marks v.items ≡ in_order list.items) }
 {
     let map = by_path(alloc, list)?;

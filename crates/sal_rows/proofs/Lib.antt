@@ -9,5 +9,6 @@ pub mod Patched
 pub mod Places
 pub mod Quiet
 pub mod Rising
+pub mod Sorted
 pub mod SpanTouches
 pub mod Untouched

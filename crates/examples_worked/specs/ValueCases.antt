@@ -5,20 +5,27 @@ use Rattle.sal_restrict.specs.declared.yang_type.YangType.TheOpen.{YangType-F}
 use Rattle.sal_json.specs.Examples.{text, whole}
 use Rattle.sal_types.specs.declared.row.Row.{Row}
 
+-- whole numbers of so many bits up to the largest one: from the least one, -1 - largest, or from 0
+abbrev pub signed : ℕ → ℕ → YangType
+signed bits largest = whole bits true (negsuc largest) (pos largest)
+
+abbrev pub unsigned : ℕ → ℕ → YangType
+unsigned bits largest = whole bits false (pos 0) (pos largest)
+
 abbrev pub int8 : YangType
-int8 = whole 8 true (negsuc 127) (pos 127)
+int8 = signed 8 127
 
 abbrev pub int16 : YangType
-int16 = whole 16 true (negsuc 32767) (pos 32767)
+int16 = signed 16 32767
 
 abbrev pub int32 : YangType
-int32 = whole 32 true (negsuc 2147483647) (pos 2147483647)
+int32 = signed 32 2147483647
 
 abbrev pub uint16 : YangType
-uint16 = whole 16 false (pos 0) (pos 65535)
+uint16 = unsigned 16 65535
 
 abbrev pub uint32 : YangType
-uint32 = whole 32 false (pos 0) (pos 4294967295)
+uint32 = unsigned 32 4294967295
 
 -- at most eight characters
 abbrev pub short : YangType

@@ -36,19 +36,12 @@ use Rattle.sal_history.specs.World.{Domain, opening_of, table_of}
 use Rattle.sal_history.proofs.Versions.{first-version}
 use Rattle.sal_history_laws.specs.Lawful.{AreLawful}
 use Rattle.sal_history_laws.specs.Logs.{AreSound, IsSentLawful}
+use Rattle.sal_history_laws.proofs.Closing.{no_first, no_second}
 use Rattle.sal_history_laws.proofs.Standing.{at_cell, at_rows}
 use Rattle.sal_history_laws.proofs.Versions.{opening_is, table_is, versions_extend}
 use Rattle.sal_config_laws.specs.Configurations.{BeginWithoutState, ConfigurationsHaveNoState, WritesLeaveNoState, is_config, is_config_row}
 
 -- ---- an operation that is not refused
-
-no_first : (a b : Option TxFault) → or_else a b ≡ None → a ≡ None
-no_first None b e = refl
-no_first (Some f) b e = cc
-
-no_second : (a b : Option TxFault) → or_else a b ≡ None → b ≡ None
-no_second None b e = e
-no_second (Some f) b e = cc
 
 -- the property if nothing is found
 none_found : {X : Type 0} (p : X → Bool) (xs : List X) → find p xs ≡ None → list_all (λ x. not (p x)) xs ≡ true

@@ -26,12 +26,12 @@ use Rattle.sal_config_laws.proofs.Stateless.{configurations_have_no_state}
 use Rattle.sal_commit.specs.declared.domain.Domain.{Domain as Kept}
 use Rattle.sal_commit.specs.Versions.{tables_of}
 use Rattle.sal_hub.specs.Domains.{IsDomain}
-use Rattle.sal_hub.specs.Epochs.{next_from, next_world}
+use Rattle.sal_hub.specs.Epochs.{domains_from, next_domain, next_world}
 use Rattle.sal_hub.specs.HubHistory.{HubHistory}
 use Rattle.sal_hub.specs.declared.opening.OpenFault.{OpenFault}
 use Rattle.sal_hub.specs.declared.opening.OpenFault.TheVariants.{Broken, NotConfig}
 use Rattle.sal_hub.specs.Openings.{AreClosedDevices, IsClosedDevice, domain_of, state_row, opening_fault, fault_from, fault_of, broken}
-use Rattle.sal_epoch.specs.Epochs.{AreStateless, HubsAreStateless, copied_domain, copied_from, copied_world}
+use Rattle.sal_epoch.specs.Epochs.{AreStateless, HubsAreStateless, copied_domain, copied_world}
 
 -- ---- the newest trees
 
@@ -95,30 +95,30 @@ closed-more (x ∷ ds) d all here = (all.0, closed-more ds d all.1 here)
 
 -- one device more
 pub next-step : (rules : Rules) (known : HubHistory) (done more whole : List Domain) (i : ℕ) → i < length known.world → more ≡ done ++ copied_domain rules known i ∷ []
-    → done ++ copied_from rules known i (length known.world - i) ≡ whole → more ++ copied_from rules known (i + 1) (length known.world - (i + 1)) ≡ whole
+    → done ++ domains_from (copied_domain rules known) i (length known.world - i) ≡ whole → more ++ domains_from (copied_domain rules known) (i + 1) (length known.world - (i + 1)) ≡ whole
 next-step rules known done more whole i inside is so =
     let rest : length known.world - i ≡ suc (length known.world - (i + 1)) = omega (arith, inside) in
-    ap (λ ds. ds ++ copied_from rules known (i + 1) (length known.world - (i + 1))) is
-    ∙ append_assoc done (copied_domain rules known i ∷ []) (copied_from rules known (i + 1) (length known.world - (i + 1)))
-    ∙ ap (λ k. done ++ copied_from rules known i k) (sym rest)
+    ap (λ ds. ds ++ domains_from (copied_domain rules known) (i + 1) (length known.world - (i + 1))) is
+    ∙ append_assoc done (copied_domain rules known i ∷ []) (domains_from (copied_domain rules known) (i + 1) (length known.world - (i + 1)))
+    ∙ ap (λ k. done ++ domains_from (copied_domain rules known) i k) (sym rest)
     ∙ so
 
-pub next-end : (rules : Rules) (known : HubHistory) (done whole : List Domain) (i : ℕ) → length known.world ≤ i → done ++ copied_from rules known i (length known.world - i) ≡ whole → done ≡ whole
+pub next-end : (rules : Rules) (known : HubHistory) (done whole : List Domain) (i : ℕ) → length known.world ≤ i → done ++ domains_from (copied_domain rules known) i (length known.world - i) ≡ whole → done ≡ whole
 next-end rules known done whole i past so =
     let none : length known.world - i ≡ 0 = omega (arith, past) in
-    sym (append-nil done) ∙ ap (λ k. done ++ copied_from rules known i k) (sym none) ∙ so
+    sym (append-nil done) ∙ ap (λ k. done ++ domains_from (copied_domain rules known) i k) (sym none) ∙ so
 
-pub next-start : (rules : Rules) (known : HubHistory) → copied_from rules known 0 (length known.world - 0) ≡ copied_world rules known
-next-start rules known = let all : length known.world - 0 ≡ length known.world = omega arith in ap (copied_from rules known 0) all
+pub next-start : (rules : Rules) (known : HubHistory) → domains_from (copied_domain rules known) 0 (length known.world - 0) ≡ copied_world rules known
+next-start rules known = let all : length known.world - 0 ≡ length known.world = omega arith in ap (domains_from (copied_domain rules known) 0) all
 
-pub next-length : (rules : Rules) (known : HubHistory) (n count : ℕ) → length (copied_from rules known n count) ≡ count
+pub next-length : (rules : Rules) (known : HubHistory) (n count : ℕ) → length (domains_from (copied_domain rules known) n count) ≡ count
 next-length rules known n zero = refl
 next-length rules known n (suc count) = ap suc (next-length rules known (n + 1) count)
 
 -- ---- versions
 
 -- each domain has one version
-alone : (rules : Rules) (known : HubHistory) (n count k : ℕ) (d : Domain) → slice_get (copied_from rules known n count) k ≡ Some d → d.upgrades ≡ []
+alone : (rules : Rules) (known : HubHistory) (n count k : ℕ) (d : Domain) → slice_get (domains_from (copied_domain rules known) n count) k ≡ Some d → d.upgrades ≡ []
 alone rules known n zero k d at = absurd (none-some d at)
 alone rules known n (suc count) zero d at = ap (λ (x : Domain). x.upgrades) (sym (same_Some (copied_domain rules known n) d at))
 alone rules known n (suc count) (suc k) d at = alone rules known (n + 1) count k d at
@@ -145,16 +145,16 @@ module _ (rules : Rules) (known : HubHistory) where
       broke : Store → Breach → OpenFault
       broke s b = Broken n s b
 
-  no-faults : (n count : ℕ) → n + count ≤ length known.world → KeepsRules → AreStateless known → fault_from n (copied_from rules known n count) ≡ None
+  no-faults : (n count : ℕ) → n + count ≤ length known.world → KeepsRules → AreStateless known → fault_from n (domains_from (copied_domain rules known) n count) ≡ None
   no-faults n zero inside keeps stateless = refl
   no-faults n (suc count) inside keeps stateless =
-      ap (λ o. option_or o (fault_from (n + 1) (copied_from rules known (n + 1) count))) (no-fault n (omega (arith, inside)) keeps stateless) ∙ no-faults (n + 1) count (omega (arith, inside)) keeps stateless
+      ap (λ o. option_or o (fault_from (n + 1) (domains_from (copied_domain rules known) (n + 1) count))) (no-fault n (omega (arith, inside)) keeps stateless) ∙ no-faults (n + 1) count (omega (arith, inside)) keeps stateless
 
   pub no-fault-of : KeepsRules → AreStateless known → fault_of (copied_world rules known) ≡ None
   no-fault-of keeps stateless = no-faults 0 (length known.world) (omega arith) keeps stateless
 
 -- the next world has the same faults
-same-faults : (rules : Rules) (known : HubHistory) (n count : ℕ) → fault_from n (next_from rules known n count) ≡ fault_from n (copied_from rules known n count)
+same-faults : (rules : Rules) (known : HubHistory) (n count : ℕ) → fault_from n (domains_from (next_domain rules known) n count) ≡ fault_from n (domains_from (copied_domain rules known) n count)
 same-faults rules known n zero = refl
 same-faults rules known n (suc count) = ap (option_or (opening_fault n (copied_domain rules known n))) (same-faults rules known (n + 1) count)
 

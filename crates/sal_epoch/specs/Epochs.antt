@@ -1,12 +1,12 @@
 -- The newest trees of a hub as the openings of devices, and that they have no fault.
-use Rattle.std.specs.Prelude.{◌≡◌, ℕ, zero, suc, ◌+◌, ◌<◌, List, [], ◌∷◌, length, None}
+use Rattle.std.specs.Prelude.{◌≡◌, ℕ, ◌<◌, List, [], length, None}
 use Rattle.sal_types.specs.declared.value.Store.TheVariants.{Config, Oper}
 use Rattle.sal_rows.specs.declared.clash.Rules.{Rules}
 use Rattle.sal_history.specs.History.{history, newest_tree}
 use Rattle.sal_history.specs.Versions.{tables_now}
 use Rattle.sal_history.specs.World.{Domain}
 use Rattle.sal_history_laws.specs.Logs.{AreSentLawful, AreSound}
-use Rattle.sal_hub.specs.Epochs.{OpensAtTheNewest, next_world}
+use Rattle.sal_hub.specs.Epochs.{OpensAtTheNewest, domains_from, next_world}
 use Rattle.sal_hub.specs.HubHistory.{HubHistory}
 use Rattle.sal_hub.specs.Openings.{fault_of, state_row}
 
@@ -19,14 +19,9 @@ copied_domain rules known n = record {
   rules = rules;
 }
 
--- those of this many numbers, from n on
-abbrev pub copied_from : Rules → HubHistory → ℕ → ℕ → List Domain
-copied_from rules known n zero = []
-copied_from rules known n (suc count) = copied_domain rules known n ∷ copied_from rules known (n + 1) count
-
 -- all domains
 abbrev pub copied_world : Rules → HubHistory → List Domain
-copied_world rules known = copied_from rules known 0 (length known.world)
+copied_world rules known = domains_from (copied_domain rules known) 0 (length known.world)
 
 -- no newest configuration has state data
 abbrev pub AreStateless : HubHistory → Type 0

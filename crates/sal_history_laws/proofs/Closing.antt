@@ -36,11 +36,11 @@ use Rattle.sal_rows.proofs.Quiet.{no_map}
 
 -- ---- an operation that is not refused
 
-no_first : (a b : Option TxFault) → or_else a b ≡ None → a ≡ None
+pub no_first : (a b : Option TxFault) → or_else a b ≡ None → a ≡ None
 no_first None b e = refl
 no_first (Some f) b e = cc
 
-no_second : (a b : Option TxFault) → or_else a b ≡ None → b ≡ None
+pub no_second : (a b : Option TxFault) → or_else a b ≡ None → b ≡ None
 no_second None b e = e
 no_second (Some f) b e = cc
 

@@ -25,7 +25,7 @@ use Rattle.sal_history.proofs.Versions.{first-version, table-in}
 use Rattle.sal_history_laws.specs.Logs.{AreSound, IsSound}
 use Rattle.sal_history_laws.proofs.Commits.{logs_stay_closed}
 use Rattle.sal_hub.specs.Current.{IsCurrent, answers, number_of}
-use Rattle.sal_hub.specs.Epochs.{OpensAtTheNewest, begun_view, begun_views, next_domain, next_from, next_world, upgrades_at}
+use Rattle.sal_hub.specs.Epochs.{OpensAtTheNewest, begun_view, begun_views, domains_from, next_domain, next_world, upgrades_at}
 use Rattle.sal_hub.specs.HubHistory.{HubHistory}
 use Rattle.sal_hub.specs.Opened.{AreFirst, IsFirst}
 use Rattle.sal_hub.specs.PipelineView.{AllKept, DomainView, PipelineView, opened_as, shown, world_in}
@@ -168,19 +168,19 @@ module _ (rules : Rules) (log : List Entry) (marks : List Bool) (queue : Pipelin
     rules = rules;
   }
 
-  world-from : (n : ℕ) (ds : List DomainView) → ((k : ℕ) (d : DomainView) → slice_get ds k ≡ Some d → opened_as (begun_view rules d) ≡ next_domain rules known (n + k)) → world_in (begun_views rules ds) ≡ next_from rules known n (length ds)
+  world-from : (n : ℕ) (ds : List DomainView) → ((k : ℕ) (d : DomainView) → slice_get ds k ≡ Some d → opened_as (begun_view rules d) ≡ next_domain rules known (n + k)) → world_in (begun_views rules ds) ≡ domains_from (next_domain rules known) n (length ds)
   world-from n [] each = refl
   world-from n (d ∷ ds) each =
       let here : n + 0 ≡ n = omega arith in
       let first : opened_as (begun_view rules d) ≡ next_domain rules known n = each 0 d refl ∙ ap (next_domain rules known) here in
-      let rest : world_in (begun_views rules ds) ≡ next_from rules known (n + 1) (length ds) =
+      let rest : world_in (begun_views rules ds) ≡ domains_from (next_domain rules known) (n + 1) (length ds) =
       world-from (n + 1) ds (λ k e at. let next : n + suc k ≡ n + 1 + k = omega arith in each (suc k) e at ∙ ap (next_domain rules known) next) in
       λ i. first i ∷ rest i
 
   pub next-worlds : world_in (begun_views rules queue.domains) ≡ next_world rules (record { world = world_in queue.domains; log = log })
   next-worlds =
       world-from 0 queue.domains (λ k d at. let same : k ≡ 0 + k = omega arith in opened-next k d at ∙ ap (next_domain rules known) same)
-      ∙ ap (next_from rules known 0) (sym (length-map queue.domains opened_as))
+      ∙ ap (domains_from (next_domain rules known) 0) (sym (length-map queue.domains opened_as))
 
   -- ---- the invariants of the next hub
 
@@ -234,7 +234,7 @@ module _ (rules : Rules) (log : List Entry) (marks : List Bool) (queue : Pipelin
 
 -- ---- the trees at commit 0
 
-opening-from : (rules : Rules) (known : HubHistory) (i count n : ℕ) (s : Store) → n < count → opening_of (next_from rules known i count) n s ≡ newest_tree known.world known.log (i + n) s
+opening-from : (rules : Rules) (known : HubHistory) (i count n : ℕ) (s : Store) → n < count → opening_of (domains_from (next_domain rules known) i count) n s ≡ newest_tree known.world known.log (i + n) s
 opening-from rules known i zero n s inside = absurd (omega (arith, inside))
 opening-from rules known i (suc count) zero Config inside = let here : i ≡ i + 0 = omega arith in ap (λ k. newest_tree known.world known.log k Config) here
 opening-from rules known i (suc count) zero Oper inside = let here : i ≡ i + 0 = omega arith in ap (λ k. newest_tree known.world known.log k Oper) here

@@ -71,12 +71,6 @@ given_within journal p receipt is given =
     omega (arith, low, given.0, length-submissions journal.log journal.marks (queue_of p) is.current)
 
 module _ (journal journal' : Noted) (p p' : Pipeline) (is : IsKept journal p) (client : ℕ) (call : Call) (n : ℕ) (log : journal'.log ≡ jotted journal.log client call) (decided : AreDecided (sents (answers journal.log (queue_of p))) (queue_of p) n (queue_of p')) where
-  abbrev w : List Domain
-  w = world_in (queue_of p).domains
-
-  abbrev answered : List Answered
-  answered = answers journal.log (queue_of p)
-
   abbrev entry : Entry
   entry = record { client = client; number = entries_of journal.log client; call = call }
 

@@ -162,76 +162,79 @@ grown : {X : Type 0} (old new : HubHistory) (e : Entry) (good : X → Reply) (r 
 grown old new e good (Ok x) made = inr made.log
 grown old new e good (Err f) fails = same_or_more old new e f fails
 
-module _ (journal journal' : Noted) (p p' : Pipeline) (cs : Chains) (ms : Marks) (ls : Listeners) (sv : Services) (whole : IsWhole journal p cs ms ls sv) (kept : IsKept journal' p') (e : Entry) (quiet : (m : ℕ) → marks e.call m ≡ false) where
+module _ {journal journal' : Noted} {p p' : Pipeline} {cs : Chains} {ms : Marks} {ls : Listeners} {sv : Services} (whole : IsWhole journal p cs ms ls sv) (kept : IsKept journal' p') (client : ℕ) (call : Call) (quiet : (m : ℕ) → marks call m ≡ false) where
   abbrev old_known : HubHistory
   old_known = known_of journal p
 
-  still_marked : (known_of journal' p' ≡ known_of journal p) ⊎ (known_of journal' p' ≡ more (known_of journal p) e) → AreMarked journal'.log ms.map
-  still_marked (inl same) = λ m. whole.marked m ∙ ap (λ (known : HubHistory). has_mark known.log m) (sym same)
-  still_marked (inr longer) = λ m. unmarked journal.log e ms quiet whole.marked m ∙ ap (λ (known : HubHistory). has_mark known.log m) (sym longer)
+  abbrev entered : Entry
+  entered = entry_of (known_of journal p) client call
 
-  still_listeners : is_listening e.call ≡ false → (known_of journal' p' ≡ known_of journal p) ⊎ (known_of journal' p' ≡ more (known_of journal p) e) → AreListeners (known_of journal' p') ls
+  still_marked : (known_of journal' p' ≡ known_of journal p) ⊎ (known_of journal' p' ≡ more (known_of journal p) entered) → AreMarked journal'.log ms.map
+  still_marked (inl same) = λ m. whole.marked m ∙ ap (λ (known : HubHistory). has_mark known.log m) (sym same)
+  still_marked (inr longer) = λ m. unmarked journal.log entered ms quiet whole.marked m ∙ ap (λ (known : HubHistory). has_mark known.log m) (sym longer)
+
+  still_listeners : is_listening call ≡ false → (known_of journal' p' ≡ known_of journal p) ⊎ (known_of journal' p' ≡ more (known_of journal p) entered) → AreListeners (known_of journal' p') ls
   still_listeners other (inl same) = subst (λ known. AreListeners known ls) (sym same) whole.listeners
   still_listeners other (inr longer) =
       subst (λ known. AreListeners known ls) (sym longer)
-      (listeners_steady old_known e ls whole.listeners (quiet_other e.client e.call (reply_to old_known.world (history old_known.world old_known.log) e.client e.call) other))
+      (listeners_steady old_known entered ls whole.listeners (quiet_other client call (reply_to old_known.world (history old_known.world old_known.log) client call) other))
 
-  still_served : is_serving e.call ≡ false → (known_of journal' p' ≡ known_of journal p) ⊎ (known_of journal' p' ≡ more (known_of journal p) e) → AreServed (known_of journal' p') sv
+  still_served : is_serving call ≡ false → (known_of journal' p' ≡ known_of journal p) ⊎ (known_of journal' p' ≡ more (known_of journal p) entered) → AreServed (known_of journal' p') sv
   still_served other (inl same) = subst (λ known. AreServed known sv) (sym same) whole.services
-  still_served other (inr longer) = subst (λ known. AreServed known sv) (sym longer) (served_steady old_known e sv other whole.services)
+  still_served other (inr longer) = subst (λ known. AreServed known sv) (sym longer) (served_steady old_known entered sv other whole.services)
 
-  still_chains : ((reply : Reply) → opened_chain e.call reply ≡ None) → ((reply : Reply) (id : ℕ) → closes e.call reply id ≡ false)
-      → ((reply : Reply) (id : ℕ) → option_map_or (λ (b : Base). is_of_chain (Some id) b.chain) (began_by (known_of journal p).world (history (known_of journal p).world journal.log) e.call reply) false ≡ false)
-      → ((reply : Reply) → sent_by (history (known_of journal p).world journal.log) e.call reply ≡ None)
-      → (known_of journal' p' ≡ known_of journal p) ⊎ (known_of journal' p' ≡ more (known_of journal p) e) → AreChains (known_of journal' p') cs
+  still_chains : ((reply : Reply) → opened_chain call reply ≡ None) → ((reply : Reply) (id : ℕ) → closes call reply id ≡ false)
+      → ((reply : Reply) (id : ℕ) → option_map_or (λ (b : Base). is_of_chain (Some id) b.chain) (began_by (known_of journal p).world (history (known_of journal p).world journal.log) call reply) false ≡ false)
+      → ((reply : Reply) → sent_by (history (known_of journal p).world journal.log) call reply ≡ None)
+      → (known_of journal' p' ≡ known_of journal p) ⊎ (known_of journal' p' ≡ more (known_of journal p) entered) → AreChains (known_of journal' p') cs
   still_chains opened closed begun sent (inl same) = subst (λ known. AreChains known cs) (sym same) whole.chains
   still_chains opened closed begun sent (inr longer) =
-      let reply : Reply = reply_to (known_of journal p).world (history (known_of journal p).world journal.log) e.client e.call in
+      let reply : Reply = reply_to (known_of journal p).world (history (known_of journal p).world journal.log) client call in
       subst (λ known. AreChains known cs) (sym longer)
-      (steady (known_of journal p) e cs whole.chains cs (same_chains cs) (opened reply) (closed reply) (begun reply) (sent reply))
+      (steady (known_of journal p) entered cs whole.chains cs (same_chains cs) (opened reply) (closed reply) (begun reply) (sent reply))
 
   -- the chains
-  pub whole_chained : {X : Type 0} (cs' : Chains) (good : X → Reply) (r : Result X CallFault) → is_listening e.call ≡ false → is_serving e.call ≡ false → AreChains (known_of journal' p') cs' → Calls (known_of journal p) (known_of journal' p') e good r → IsWhole journal' p' cs' ms ls sv
+  pub whole_chained : {X : Type 0} (cs' : Chains) (good : X → Reply) (r : Result X CallFault) → is_listening call ≡ false → is_serving call ≡ false → AreChains (known_of journal' p') cs' → Calls (known_of journal p) (known_of journal' p') entered good r → IsWhole journal' p' cs' ms ls sv
   whole_chained cs' good r other unserved are calls =
-      let how = grown old_known (known_of journal' p') e good r calls in
+      let how = grown old_known (known_of journal' p') entered good r calls in
       record { kept = kept; chains = are; marked = still_marked how; listeners = still_listeners other how; services = still_served unserved how }
 
   -- the listeners
-  pub whole_heard : {X : Type 0} (ls' : Listeners) (good : X → Reply) (r : Result X CallFault) → is_serving e.call ≡ false → AreListeners (known_of journal' p') ls' → Calls (known_of journal p) (known_of journal' p') e good r
-      → ((reply : Reply) → opened_chain e.call reply ≡ None) → ((reply : Reply) (id : ℕ) → closes e.call reply id ≡ false)
-      → ((reply : Reply) (id : ℕ) → option_map_or (λ (b : Base). is_of_chain (Some id) b.chain) (began_by (known_of journal p).world (history (known_of journal p).world journal.log) e.call reply) false ≡ false)
-      → ((reply : Reply) → sent_by (history (known_of journal p).world journal.log) e.call reply ≡ None) → IsWhole journal' p' cs ms ls' sv
+  pub whole_heard : {X : Type 0} (ls' : Listeners) (good : X → Reply) (r : Result X CallFault) → is_serving call ≡ false → AreListeners (known_of journal' p') ls' → Calls (known_of journal p) (known_of journal' p') entered good r
+      → ((reply : Reply) → opened_chain call reply ≡ None) → ((reply : Reply) (id : ℕ) → closes call reply id ≡ false)
+      → ((reply : Reply) (id : ℕ) → option_map_or (λ (b : Base). is_of_chain (Some id) b.chain) (began_by (known_of journal p).world (history (known_of journal p).world journal.log) call reply) false ≡ false)
+      → ((reply : Reply) → sent_by (history (known_of journal p).world journal.log) call reply ≡ None) → IsWhole journal' p' cs ms ls' sv
   whole_heard ls' good r unserved are calls opened closed begun sent =
-      let how = grown old_known (known_of journal' p') e good r calls in
+      let how = grown old_known (known_of journal' p') entered good r calls in
       record { kept = kept; chains = still_chains opened closed begun sent how; marked = still_marked how; listeners = are; services = still_served unserved how }
 
   -- the services
-  pub whole_served : {X : Type 0} (sv' : Services) (good : X → Reply) (r : Result X CallFault) → is_serving e.call ≡ true → AreServed (known_of journal' p') sv' → Calls (known_of journal p) (known_of journal' p') e good r → IsWhole journal' p' cs ms ls sv'
+  pub whole_served : {X : Type 0} (sv' : Services) (good : X → Reply) (r : Result X CallFault) → is_serving call ≡ true → AreServed (known_of journal' p') sv' → Calls (known_of journal p) (known_of journal' p') entered good r → IsWhole journal' p' cs ms ls sv'
   whole_served sv' good r serves are calls =
-      let how = grown old_known (known_of journal' p') e good r calls in
+      let how = grown old_known (known_of journal' p') entered good r calls in
       record {
         kept = kept;
-        chains = still_chains (serving_unopened e.call serves) (serving_unclosed e.call serves) (serving_unbegun old_known.world (history old_known.world old_known.log) e.call serves) (serving_unsent (history old_known.world old_known.log) e.call serves) how;
+        chains = still_chains (serving_unopened call serves) (serving_unclosed call serves) (serving_unbegun old_known.world (history old_known.world old_known.log) call serves) (serving_unsent (history old_known.world old_known.log) call serves) how;
         marked = still_marked how;
-        listeners = still_listeners (serving_unheard e.call serves) how;
+        listeners = still_listeners (serving_unheard call serves) how;
         services = are;
       }
 
   -- the calls of one service
-  pub whole_mounted : {X : Type 0} (mounts : Register) (good : X → Reply) (r : Result X CallFault) → is_serving e.call ≡ true → rpc_call e.call ≡ None → note_call e.call ≡ None → AreMounted (known_of journal' p') mounts → Calls (known_of journal p) (known_of journal' p') e good r → IsWhole journal' p' cs ms ls (record sv { mounts = mounts })
+  pub whole_mounted : {X : Type 0} (mounts : Register) (good : X → Reply) (r : Result X CallFault) → is_serving call ≡ true → rpc_call call ≡ None → note_call call ≡ None → AreMounted (known_of journal' p') mounts → Calls (known_of journal p) (known_of journal' p') entered good r → IsWhole journal' p' cs ms ls (record sv { mounts = mounts })
   whole_mounted mounts good r serves unrouted unnoted are calls =
       whole_served (record sv { mounts = mounts }) good r serves
-      (served_by_mounts old_known (known_of journal' p') e (grown old_known (known_of journal' p') e good r calls) sv whole.services mounts unrouted unnoted are) calls
+      (served_by_mounts old_known (known_of journal' p') entered (grown old_known (known_of journal' p') entered good r calls) sv whole.services mounts unrouted unnoted are) calls
 
-  pub whole_routed : {X : Type 0} (router : Routes) (good : X → Reply) (r : Result X CallFault) → is_serving e.call ≡ true → mount_call e.call ≡ None → note_call e.call ≡ None → AreRouted (known_of journal' p') router → Calls (known_of journal p) (known_of journal' p') e good r → IsWhole journal' p' cs ms ls (record sv { router = router })
+  pub whole_routed : {X : Type 0} (router : Routes) (good : X → Reply) (r : Result X CallFault) → is_serving call ≡ true → mount_call call ≡ None → note_call call ≡ None → AreRouted (known_of journal' p') router → Calls (known_of journal p) (known_of journal' p') entered good r → IsWhole journal' p' cs ms ls (record sv { router = router })
   whole_routed router good r serves unmounted unnoted are calls =
       whole_served (record sv { router = router }) good r serves
-      (served_by_router old_known (known_of journal' p') e (grown old_known (known_of journal' p') e good r calls) sv whole.services router unmounted unnoted are) calls
+      (served_by_router old_known (known_of journal' p') entered (grown old_known (known_of journal' p') entered good r calls) sv whole.services router unmounted unnoted are) calls
 
-  pub whole_noted : {X : Type 0} (notes : Boxes) (good : X → Reply) (r : Result X CallFault) → is_serving e.call ≡ true → mount_call e.call ≡ None → rpc_call e.call ≡ None → AreNoted (known_of journal' p') notes → Calls (known_of journal p) (known_of journal' p') e good r → IsWhole journal' p' cs ms ls (record sv { notes = notes })
+  pub whole_noted : {X : Type 0} (notes : Boxes) (good : X → Reply) (r : Result X CallFault) → is_serving call ≡ true → mount_call call ≡ None → rpc_call call ≡ None → AreNoted (known_of journal' p') notes → Calls (known_of journal p) (known_of journal' p') entered good r → IsWhole journal' p' cs ms ls (record sv { notes = notes })
   whole_noted notes good r serves unmounted unrouted are calls =
       whole_served (record sv { notes = notes }) good r serves
-      (served_by_notes old_known (known_of journal' p') e (grown old_known (known_of journal' p') e good r calls) sv whole.services notes unmounted unrouted are) calls
+      (served_by_notes old_known (known_of journal' p') entered (grown old_known (known_of journal' p') entered good r calls) sv whole.services notes unmounted unrouted are) calls
 
 -- ---- a submission
 

@@ -27,14 +27,14 @@ next_domain rules known n = record {
   rules = rules;
 }
 
--- those of this many numbers, from n on
-abbrev pub next_from : Rules → HubHistory → ℕ → ℕ → List Domain
-next_from rules known n zero = []
-next_from rules known n (suc count) = next_domain rules known n ∷ next_from rules known (n + 1) count
+-- a domain for each of this many numbers, from n on
+abbrev pub domains_from : (ℕ → Domain) → ℕ → ℕ → List Domain
+domains_from domain n zero = []
+domains_from domain n (suc count) = domain n ∷ domains_from domain (n + 1) count
 
 -- the world of the next epoch
 abbrev pub next_world : Rules → HubHistory → List Domain
-next_world rules known = next_from rules known 0 (length known.world)
+next_world rules known = domains_from (next_domain rules known) 0 (length known.world)
 
 -- a hub without calls over it
 abbrev pub next_hub : Rules → HubHistory → HubHistory

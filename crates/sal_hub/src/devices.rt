@@ -54,8 +54,8 @@ fn has_tables(device: &Device)
     are_tables(&device.upgrades);
 }
 
-// Does nothing; its contract is the invariant of the schemas' types.
-fn are_tables(versions: &[Arc<Schema>])
+/// Does nothing; its contract is the invariant of the schemas' types.
+pub fn are_tables(versions: &[Arc<Schema>])
     ensures { All IsTable (tables_of versions.now) }
 {
     for i in 0..versions.len() {

@@ -116,6 +116,7 @@ mod version_calls;
 
 pub use call_id::CallId;
 pub use chain::Chain;
+pub use devices::are_tables;
 pub use hub::{Hub, MAX_ENTRIES, MAX_PENDING};
 pub use listener::ListenerId;
 pub use listeners::MAX_LISTENERS;

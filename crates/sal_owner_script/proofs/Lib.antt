@@ -1,3 +1,2 @@
-pub mod ArrayTexts
 pub mod Playing
 pub mod Reading

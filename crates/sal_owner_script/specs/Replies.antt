@@ -13,13 +13,13 @@ use Rattle.sal_owner.specs.declared.entity.Owned.{Owned}
 use Rattle.sal_owner.specs.declared.entity.OwnerChange.{OwnerChange}
 use Rattle.sal_owner.specs.declared.entity.OwnershipState.{OwnershipState}
 use Rattle.sal_owner.specs.declared.entity.OwnershipState.TheVariants.{IsOwner, OwnedByOther, NoOwner}
-use Rattle.sal_owner.specs.Ownership.{made_of}
+use Rattle.sal_owner.specs.Ownership.{Text, made_of}
 use Rattle.sal_owner_script.specs.declared.step.OwnerStep.{OwnerStep}
 use Rattle.sal_owner_script.specs.Steps.{steps_of}
 
 -- ---- one reply
 
-abbrev pub state_text : OwnershipState → List ℕ
+abbrev pub state_text : OwnershipState → Text
 state_text IsOwner = codes "is-owner"
 state_text OwnedByOther = codes "owned-by-other"
 state_text NoOwner = codes "no-owner"
@@ -32,14 +32,14 @@ owned_data o = list_data (string o.id ∷ boolean o.is_owner ∷ [])
 abbrev pub change_data : OwnerChange → Data
 change_data ch = list_data (string ch.entity.kind ∷ string ch.entity.id ∷ boolean ch.was_owner ∷ boolean ch.is_owner ∷ boolean ch.has_owner ∷ [])
 
-abbrev pub fault_text : OwnerFault → List ℕ
+abbrev pub fault_text : OwnerFault → Text
 fault_text LogFull = codes "log-full"
 fault_text AlreadyCandidate = codes "already-candidate"
 fault_text NotCandidate = codes "not-candidate"
 fault_text AlreadyWatching = codes "already-watching"
 fault_text NoMemory = codes "no-memory"
 
-abbrev pub reply_text : OwnerReply → List ℕ
+abbrev pub reply_text : OwnerReply → Text
 reply_text Accepted = codes "ok"
 reply_text (State state) = state_text state
 reply_text (Watching list) = codes "watching " ++ compact_text (list_data (map owned_data list))
@@ -48,11 +48,11 @@ reply_text (Refused fault) = codes "refused " ++ fault_text fault
 
 -- ---- all of them
 
-abbrev pub reply_line : ℕ → OwnerReply → List ℕ
+abbrev pub reply_line : ℕ → OwnerReply → Text
 reply_line i reply = decimal i ++ (32 ∷ (reply_text reply ++ 10 ∷ []))
 
 -- the lines of these, the first with number i
-abbrev pub lines_from : ℕ → List OwnerReply → List ℕ
+abbrev pub lines_from : ℕ → List OwnerReply → Text
 lines_from i [] = []
 lines_from i (reply ∷ replies) = reply_line i reply ++ lines_from (i + 1) replies
 
@@ -64,7 +64,7 @@ entry_of s = record { client = s.client; number = 0; call = s.call }
 abbrev pub replies_to : List OwnerStep → List OwnerReply
 replies_to steps = map (λ m. m.reply) (made_of (map entry_of steps))
 
-abbrev pub steps_text : List OwnerStep → List ℕ
+abbrev pub steps_text : List OwnerStep → Text
 steps_text steps = lines_from 0 (replies_to steps)
 
 -- the text of the replies to the steps that the bytes denote, or the first bad input

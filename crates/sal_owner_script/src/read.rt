@@ -1,14 +1,15 @@
 //! Steps, read from JSON (RFC 8259).
-ghost use Rattle.std.specs.Prelude.{◌≡◌, ◌≤◌, IfOk, IfSome, codes, decimal, length, map, option_and_then, option_map};
+ghost use Rattle.std.specs.Prelude.{◌≡◌, ◌≤◌, IfOk, IfSome, decimal, length, map, option_and_then, option_map};
 ghost use Rattle.serde_json.specs.View.{view};
-ghost use Rattle.sal_script.specs.Json.{data_of, list_of};
+ghost use Rattle.sal_script.specs.Json.{list_of};
 ghost use Rattle.sal_script.specs.Reading.{IsBadAt, Reads};
-ghost use Rattle.sal_script.specs.Script.{at_most, or_bad};
+ghost use Rattle.sal_script.specs.Script.{at_most};
 ghost use Rattle.sal_owner_script.specs.Steps as spec;
 
 use crate::step::{OwnerStep, step_of};
-use sal_script::{ScriptFault, list_of};
-use sal_types::{NoMemory, Str};
+use sal_script::fault::bad;
+use sal_script::{ScriptFault, list_of, value_of};
+use sal_types::Str;
 use serde_json::Value;
 use std::alloc::Global;
 
@@ -23,20 +24,6 @@ pub fn read_steps(alloc: Global, bytes: &[u8]) -> Result<Vec<OwnerStep>, ScriptF
     let value = value_of(alloc, bytes)?;
     let list = listed(alloc, &value)?;
     steps_of(alloc, list)
-}
-
-// The JSON value that bytes denote.
-fn value_of(alloc: Global, bytes: &[u8]) -> Result<Value, ScriptFault>
-    ensures { Reads view result (or_bad (codes "json") (data_of bytes.now)) }
-{
-    let Ok(text) = str::from_utf8(bytes) else {
-        return Err(bad(alloc, "json"));
-    };
-    match Value::from_str(alloc, text) {
-        Ok(value) => Ok(value),
-        Err(error) if error.is_memory() => Err(ScriptFault::NoMemory),
-        Err(_) => Err(bad(alloc, "json")),
-    }
 }
 
 // The steps, not yet read.
@@ -73,16 +60,6 @@ fn steps_of(alloc: Global, list: &[Value]) -> Result<Vec<OwnerStep>, ScriptFault
         }
     }
     Ok(steps)
-}
-
-// The fault with this place.
-fn bad(alloc: Global, place: &str) -> ScriptFault
-    ensures { IsBadAt place.now result }
-{
-    match Str::new(alloc, place) {
-        Ok(place) => ScriptFault::BadScript { place },
-        Err(NoMemory) => ScriptFault::NoMemory,
-    }
 }
 
 // The fault with the number of this step.

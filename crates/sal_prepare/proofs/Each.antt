@@ -4,7 +4,7 @@ use Rattle.std.specs.Prelude.{slice_get}
 use Rattle.std.specs.Result.{IsErrAnd}
 use Rattle.sal_types.specs.Reading.{◌>>=◌}
 use Rattle.sal_prepare.specs.declared.status.Status.{Status}
-use Rattle.sal_prepare.specs.declared.status.Status.TheVariants.{Done, BadWords, ReadFault, WriteFault, TooLong, BadScript, BadSchema, BadOpening, BadOrder, NoMemory, NoPart, BadStream, BadExport}
+use Rattle.sal_prepare.specs.declared.status.Status.TheVariants.{BadScript, BadSchema, BadOpening, NoMemory}
 use Rattle.sal_prepare.specs.Each.{each_from}
 use Rattle.sal_prepare.specs.Scripted.{Comes, IsStatusOf, or_schema, with_next}
 use Rattle.sal_versions.proofs.Bound.{bind_ok, same_ok}
@@ -42,15 +42,7 @@ module _ {A B : Type 0} (make : ℕ → A → Result B Status) (xs : List A) (do
   stops total (BadScript place) fault so_far = sym so_far ∙ turn ∙ ap (λ (r : Result (List B) Status). r >>= (λ more. before more (each_from make (i + 1) (drop (i + 1) xs)))) fault
   stops total (BadSchema n text) fault so_far = sym so_far ∙ turn ∙ ap (λ (r : Result (List B) Status). r >>= (λ more. before more (each_from make (i + 1) (drop (i + 1) xs)))) fault
   stops total (BadOpening text) fault so_far = sym so_far ∙ turn ∙ ap (λ (r : Result (List B) Status). r >>= (λ more. before more (each_from make (i + 1) (drop (i + 1) xs)))) fault
-  stops total Done fault so_far = absurd fault
-  stops total BadWords fault so_far = absurd fault
-  stops total ReadFault fault so_far = absurd fault
-  stops total WriteFault fault so_far = absurd fault
-  stops total TooLong fault so_far = absurd fault
-  stops total (BadOrder index) fault so_far = absurd fault
-  stops total NoPart fault so_far = absurd fault
-  stops total (BadStream text) fault so_far = absurd fault
-  stops total (BadExport commit) fault so_far = absurd fault
+  stops total status fault so_far = absurd fault
 
 -- nothing was made before
 pub before_none : {B F : Type 0} (rest : Result (List B) F) → before [] rest ≡ rest
@@ -76,31 +68,11 @@ bind_fault r f NoMemory fault = tt
 bind_fault r f (BadScript place) fault = ap (λ made. made >>= f) fault
 bind_fault r f (BadSchema n text) fault = ap (λ made. made >>= f) fault
 bind_fault r f (BadOpening text) fault = ap (λ made. made >>= f) fault
-bind_fault r f Done fault = absurd fault
-bind_fault r f BadWords fault = absurd fault
-bind_fault r f ReadFault fault = absurd fault
-bind_fault r f WriteFault fault = absurd fault
-bind_fault r f TooLong fault = absurd fault
-bind_fault r f (BadOrder index) fault = absurd fault
-bind_fault r f NoPart fault = absurd fault
-bind_fault r f (BadStream text) fault = absurd fault
-bind_fault r f (BadExport commit) fault = absurd fault
+bind_fault r f status fault = absurd fault
 
 -- after a fault no more are made
 pub with_fault : {A : Type 0} (done : List A) (next : Result A Status) (e : Status) → IsStatusOf next e → IsStatusOf (with_next done next) e
-with_fault done next NoMemory fault = tt
-with_fault done next (BadScript place) fault = ap (with_next done) fault
-with_fault done next (BadSchema n text) fault = ap (with_next done) fault
-with_fault done next (BadOpening text) fault = ap (with_next done) fault
-with_fault done next Done fault = absurd fault
-with_fault done next BadWords fault = absurd fault
-with_fault done next ReadFault fault = absurd fault
-with_fault done next WriteFault fault = absurd fault
-with_fault done next TooLong fault = absurd fault
-with_fault done next (BadOrder index) fault = absurd fault
-with_fault done next NoPart fault = absurd fault
-with_fault done next (BadStream text) fault = absurd fault
-with_fault done next (BadExport commit) fault = absurd fault
+with_fault done next e fault = bind_fault next (λ x. Ok (done ++ x ∷ [])) e fault
 
 -- the schema of a domain's modules is made from them
 pub schema-ok : {A : Type 0} (n : ℕ) (made : Result A (List ℕ)) (x : A) → or_schema n made ≡ Ok x → made ≡ Ok x

@@ -6,5 +6,4 @@ pub mod Numbered
 pub mod OwnSchemas
 pub mod SoundWorlds
 pub mod Statuses
-pub mod Texts
 pub mod Worlds

@@ -1,8 +1,7 @@
 //! The opening trees of a script: their data, and why a hub is not opened over them.
-ghost use Rattle.std.specs.Prelude.{◌≡◌, ◌+◌, ◌<◌, ◌≤◌, ◌++◌, [], ◌∷◌, true, All, Ok, Err, IfOk, Some, codes, decimal, length};
+ghost use Rattle.std.specs.Prelude.{◌≡◌, ◌+◌, ◌<◌, ◌≤◌, ◌++◌, [], ◌∷◌, true, Ok, Err, IfOk, Some, codes, decimal, length};
 ghost use Rattle.serde_json.specs.View.{view};
 ghost use Rattle.sal_rows.specs.declared.clash.Rules.{Rules as Ruled};
-ghost use Rattle.sal_schema.specs.Valid.{IsTable};
 ghost use Rattle.sal_history.specs.World.{AreVersions};
 ghost use Rattle.sal_hub.specs.Openings.{AreClosedDevices, world_of};
 ghost use Rattle.sal_script.specs.Reading.{parts};
@@ -17,7 +16,7 @@ use crate::status::Status;
 use sal_client::{Reader, Readers};
 use sal_data::DataFault;
 use sal_history::{Device, Opening};
-use sal_hub::{Hub, OpenFault};
+use sal_hub::{Hub, OpenFault, are_tables};
 use sal_report::{breach_text, data_fault_text, path_words, store_word};
 use sal_rows::{Breach, Rows, Rules};
 use sal_schema::Schema;
@@ -66,27 +65,11 @@ fn are_sound(script: &Script, schemas: &Schemas)
     ensures sound { OpenSound (spec.domains_of (parts script.now)) (spec.versions_shared schemas.now) }
     ensures chains { AreChains (spec.versions_shared schemas.now) }
 {
-    have_tables(&schemas.own);
-    have_tables(&schemas.devices);
+    are_tables(&schemas.own);
+    are_tables(&schemas.devices);
     sal_json_laws::laws::json_is_tested();
     sal_data::laws::rows_that_were_read_are_whole();
     sal_versions::laws::versions_are_in_order();
-}
-
-// Does nothing; its contract is the invariant of the schemas' types.
-fn have_tables(schemas: &[Arc<Schema>])
-    ensures { All IsTable (spec.tables_in schemas.now) }
-{
-    for i in 0..schemas.len() {
-        has_table(&schemas[i]);
-    }
-}
-
-// Does nothing; its contract is the invariant of the schema's type.
-fn has_table(schema: &Schema)
-    ensures { IsTable schema.now }
-{
-    let _ = schema.len();
 }
 
 // The devices with their opening trees.

@@ -1,4 +1,5 @@
 pub mod Along
+pub mod ArrayTexts
 pub mod Arriving
 pub mod CheckedLaws
 pub mod CheckedReads

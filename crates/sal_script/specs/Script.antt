@@ -1,6 +1,6 @@
 -- Which script bytes denote, or the first fault, in the order of the lines below.
 use Rattle.std.specs.Prelude.{ℕ, ◌+◌, Bool, true, false, List, [], ◌∷◌, ◌++◌, length, Option, None, Some, option_and_then, Result, Ok, Err, codes, decimal, if◌then◌else◌, nat_eq, nat_le}
-use Rattle.std.specs.Option.{option_map}
+use Rattle.std.specs.Option.{option_map, option_map_or}
 use Rattle.sal_types.specs.Reading.{◌>>=◌}
 use Rattle.serde_json.specs.Data.{Data, object, Members, no_members}
 use Rattle.serde_json.specs.Find.{as_str, as_object, get_member}
@@ -208,11 +208,7 @@ rules_by n = if nat_eq n 1 then Some One else (if nat_eq n 2 then Some Two else 
 
 -- the version rules; without such a member they are 1
 abbrev pub rules_member : Members → Option Rules
-rules_member ms = given (get_member (codes "rules") ms)
-  where
-    given : Option Data → Option Rules
-    given None = Some One
-    given (Some d) = option_and_then rules_by (number_of d)
+rules_member ms = option_map_or (λ d. option_and_then rules_by (number_of d)) (get_member (codes "rules") ms) (Some One)
 
 -- reads are checked by the text `checked`
 abbrev pub checked_by : List ℕ → Option Bool
@@ -220,11 +216,7 @@ checked_by text = if text_eq text (codes "checked") then Some true else None
 
 -- whether reads are checked; without such a member they are not
 abbrev pub reads_member : Members → Option Bool
-reads_member ms = given (get_member (codes "reads") ms)
-  where
-    given : Option Data → Option Bool
-    given None = Some false
-    given (Some d) = option_and_then checked_by (as_str d)
+reads_member ms = option_map_or (λ d. option_and_then checked_by (as_str d)) (get_member (codes "reads") ms) (Some false)
 
 -- the members after the clients: the order, the version rules, and whether reads are checked
 pub record Ending : Type 0 where

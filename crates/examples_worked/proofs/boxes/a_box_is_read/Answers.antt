@@ -9,10 +9,9 @@ use Rattle.sal_json.specs.Read.{type_scalar, type_text_scalar, own_text, own_jso
 use Rattle.sal_json.specs.Written.{type_json_of, type_text_of, layer_for}
 use Rattle.examples_worked.proofs.boxes.a_box_is_read.Goals as goal
 
-pub returns-clause-whole : goal.returns-clause-whole
+pub returns : goal.returns
 unfolding closest digits chars base64_on_literals bits_of
-returns-clause-whole c = simp (type_scalar, type_text_scalar, own_text, own_json, type_json_of, type_text_of, layer_for, out-roll-YangType)
-
-pub returns-clause-texts : goal.returns-clause-texts
-unfolding closest digits chars base64_on_literals bits_of
-returns-clause-texts c = simp (type_scalar, type_text_scalar, own_text, own_json, type_json_of, type_text_of, layer_for, out-roll-YangType)
+returns c = record {
+  whole = simp (type_scalar, type_text_scalar, own_text, own_json, type_json_of, type_text_of, layer_for, out-roll-YangType);
+  texts = simp (type_scalar, type_text_scalar, own_text, own_json, type_json_of, type_text_of, layer_for, out-roll-YangType);
+}

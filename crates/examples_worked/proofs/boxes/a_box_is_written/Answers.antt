@@ -8,10 +8,6 @@ use Rattle.sal_schema.specs.Table.{closest}
 use Rattle.sal_schema.specs.Valid.{is_good_type}
 use Rattle.examples_worked.proofs.boxes.a_box_is_written.Goals as goal
 
-pub returns-clause-table : goal.returns-clause-table
-unfolding closest
-returns-clause-table c = simp (is_good_type, out-roll-YangType)
-
-pub returns-clause-text : goal.returns-clause-text
-unfolding serde_json_on_literals utf8_valid_len is_utf8 chars
-returns-clause-text c = refl
+pub returns : goal.returns
+unfolding closest serde_json_on_literals utf8_valid_len is_utf8 chars
+returns c = record { table = simp (is_good_type, out-roll-YangType); text = refl }

@@ -7,10 +7,6 @@ use Rattle.sal_schema.specs.Table.{closest}
 use Rattle.sal_data.specs.Written.{scalar_json, node_json, runs_of}
 use Rattle.examples_worked.proofs.replies.faults_in_words.Goals as goal
 
-pub returns-clause-path : goal.returns-clause-path
+pub returns : goal.returns
 unfolding closest digits chars escape_byte scalar_json node_json runs_of
-returns-clause-path c = refl
-
-pub returns-clause-write : goal.returns-clause-write
-unfolding closest digits chars escape_byte scalar_json node_json runs_of
-returns-clause-write c = refl
+returns c = record { path = refl; write = refl }

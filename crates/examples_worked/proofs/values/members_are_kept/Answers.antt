@@ -8,18 +8,11 @@ use Rattle.sal_json.specs.Read.{type_scalar, type_text_scalar, own_text, own_jso
 use Rattle.sal_json.specs.Written.{type_json_of, type_text_of, layer_for}
 use Rattle.examples_worked.proofs.values.members_are_kept.Goals as goal
 
-pub returns-clause-number_first : goal.returns-clause-number_first
+pub returns : goal.returns
 unfolding digits chars base64_on_literals bits_of
-returns-clause-number_first c = simp (type_scalar, type_text_scalar, own_text, own_json, type_json_of, type_text_of, layer_for, out-roll-YangType)
-
-pub returns-clause-number_second : goal.returns-clause-number_second
-unfolding digits chars base64_on_literals bits_of
-returns-clause-number_second c = simp (type_scalar, type_text_scalar, own_text, own_json, type_json_of, type_text_of, layer_for, out-roll-YangType)
-
-pub returns-clause-text_second : goal.returns-clause-text_second
-unfolding digits chars base64_on_literals bits_of
-returns-clause-text_second c = simp (type_scalar, type_text_scalar, own_text, own_json, type_json_of, type_text_of, layer_for, out-roll-YangType)
-
-pub returns-clause-text_first : goal.returns-clause-text_first
-unfolding digits chars base64_on_literals bits_of
-returns-clause-text_first c = simp (type_scalar, type_text_scalar, own_text, own_json, type_json_of, type_text_of, layer_for, out-roll-YangType)
+returns c = record {
+  number_first = simp (type_scalar, type_text_scalar, own_text, own_json, type_json_of, type_text_of, layer_for, out-roll-YangType);
+  number_second = simp (type_scalar, type_text_scalar, own_text, own_json, type_json_of, type_text_of, layer_for, out-roll-YangType);
+  text_second = simp (type_scalar, type_text_scalar, own_text, own_json, type_json_of, type_text_of, layer_for, out-roll-YangType);
+  text_first = simp (type_scalar, type_text_scalar, own_text, own_json, type_json_of, type_text_of, layer_for, out-roll-YangType);
+}

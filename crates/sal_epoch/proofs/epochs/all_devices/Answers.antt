@@ -2,13 +2,14 @@
 use Rattle.std.proofs.Common.{rules, ◌<◌, ◌≤◌, ◌-◌, ◌++◌, List, length, ap, sym, subst, ◌∙◌, arith}
 use Rattle.sal_history.specs.declared.opening.Device.{Device}
 use Rattle.sal_hub.specs.Openings.{AreClosedDevices, world_of}
-use Rattle.sal_epoch.specs.Epochs.{copied_from, copied_world}
+use Rattle.sal_hub.specs.Epochs.{domains_from}
+use Rattle.sal_epoch.specs.Epochs.{copied_domain, copied_world}
 use Rattle.sal_epoch.proofs.Next.{next-end, next-start, next-step}
 use Rattle.sal_epoch.proofs.epochs.all_devices.Goals as goal
 
 pub loop-index-init : goal.loop-index-init
 loop-index-init c = record {
-  world = λ rules. ap (λ (ds : List Device). world_of rules ds ++ copied_from rules c.args.hub.now 0 (length c.args.hub.now.world - 0)) c.new-devices.ensures.items ∙ next-start rules c.args.hub.now;
+  world = λ rules. ap (λ (ds : List Device). world_of rules ds ++ domains_from (copied_domain rules c.args.hub.now) 0 (length c.args.hub.now.world - 0)) c.new-devices.ensures.items ∙ next-start rules c.args.hub.now;
   closed = subst AreClosedDevices (sym c.new-devices.ensures.items) tt;
 }
 

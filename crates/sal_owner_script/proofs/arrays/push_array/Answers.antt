@@ -1,5 +1,5 @@
 use Rattle.std.proofs.Common.{◌≡◌, ℕ, List, OnOk, string_bytes, subst}
-use Rattle.sal_owner_script.proofs.ArrayTexts.{array_written}
+use Rattle.sal_script.proofs.ArrayTexts.{array_written}
 use Rattle.sal_owner_script.proofs.arrays.push_array.Goals as goal
 
 pub returns : goal.returns

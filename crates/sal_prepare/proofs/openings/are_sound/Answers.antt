@@ -35,8 +35,8 @@ returns-clause-chains c =
     let own = tables_in schemas.own.items in
     let devices = tables_in schemas.devices.items in
     let same = length-map schemas.own.items (λ (s : Arc SchemaTable Global). s.value) in
-    chained own devices (omega (arith, same, c.requires.own)) (lent c.deref.ensures.value c.have_tables.ensures)
-    (own_in_order c.versions_are_in_order.ensures (parts c.args.script.now) own devices c.requires.made) (lent c.deref-2.ensures.value c.have_tables-2.ensures)
+    chained own devices (omega (arith, same, c.requires.own)) (lent c.deref.ensures.value c.are_tables.ensures)
+    (own_in_order c.versions_are_in_order.ensures (parts c.args.script.now) own devices c.requires.made) (lent c.deref-2.ensures.value c.are_tables-2.ensures)
 
 pub returns-clause-sound : goal.returns-clause-sound
 returns-clause-sound c =
@@ -45,8 +45,8 @@ returns-clause-sound c =
     let own = tables_in schemas.own.items in
     let devices = tables_in schemas.devices.items in
     let same = length-map schemas.own.items (λ (s : Arc SchemaTable Global). s.value) in
-    let good = chained own devices (omega (arith, same, c.requires.own)) (lent c.deref.ensures.value c.have_tables.ensures)
-    (own_in_order c.versions_are_in_order.ensures (parts script) own devices c.requires.made) (lent c.deref-2.ensures.value c.have_tables-2.ensures) in
+    let good = chained own devices (omega (arith, same, c.requires.own)) (lent c.deref.ensures.value c.are_tables.ensures)
+    (own_in_order c.versions_are_in_order.ensures (parts script) own devices c.requires.made) (lent c.deref-2.ensures.value c.are_tables-2.ensures) in
     let domains = domains_of (parts script) in
     let some = length-map schemas.devices.items (λ (s : Arc SchemaTable Global). s.value) in
     let each = length-map devices alone in

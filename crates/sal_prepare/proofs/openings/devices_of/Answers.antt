@@ -41,30 +41,24 @@ versions_at-requires-clause-within c =
 
 pub returns-in_err-opening : goal.returns-in_err-opening
 returns-in_err-opening c =
-    let l = c.loop-number in
-    let domains = domains_of (parts c.args.script.now) in
-    let readers = c.args.readers.now in
-    let make = opening_by c.args.script.now.rules readers in
-    let done = world_of c.args.script.now.rules l.devices.items in
+    let make = opening_by c.args.script.now.rules c.args.readers.now in
+    let done = world_of c.args.script.now.rules c.loop-number.devices.items in
     let domain = given c.domain_at-domain.result in
     let e = c.in_err-opening.field-0.0 in
-    let fault = bind_fault (opening_trees l.number (first_in readers l.number) domain) (λ (o : Opening). Ok (domain_with c.args.script.now.rules (versions_in readers l.number) o)) e c.in_err-opening.ensures in
-    comes_err _ (each_from make 0 domains) _ e c.from_residual.ensures.1
-    (stops make domains done l.number domain c.domain_at-domain.ensures.domain (each_from make 0 domains) e (with_fault done (make l.number domain) e fault) l.invariant)
+    let fault = bind_fault (opening_trees c.loop-number.number (first_in c.args.readers.now c.loop-number.number) domain) (λ (o : Opening). Ok (domain_with c.args.script.now.rules (versions_in c.args.readers.now c.loop-number.number) o)) e c.in_err-opening.ensures in
+    comes_err _ (each_from make 0 (domains_of (parts c.args.script.now))) _ e c.from_residual.ensures.1
+    (stops make (domains_of (parts c.args.script.now)) done c.loop-number.number domain c.domain_at-domain.ensures.domain (each_from make 0 (domains_of (parts c.args.script.now))) e (with_fault done (make c.loop-number.number domain) e fault) c.loop-number.invariant)
 
 pub loop-number-preserved : goal.loop-number-preserved
 loop-number-preserved c =
-    let l = c.loop-number in
-    let domains = domains_of (parts c.args.script.now) in
-    let readers = c.args.readers.now in
-    let make = opening_by c.args.script.now.rules readers in
-    let done = world_of c.args.script.now.rules l.devices.items in
+    let make = opening_by c.args.script.now.rules c.args.readers.now in
+    let done = world_of c.args.script.now.rules c.loop-number.devices.items in
     let domain = given c.domain_at-domain.result in
     let opening = c.in_ok-opening.opening in
-    let versions : versions_in readers l.number ≡ tables_in c.versions_at.result.now =
-    ap (λ (ts : List (List SchemaTable)). versions_in ts l.number) c.requires.schemas ∙ sym c.versions_at.ensures.tables in
-    let made : with_next done (make l.number domain) ≡ Ok (world_of c.args.script.now.rules c.add_device.new.devices.items) =
-    ap (λ (r : Result Opening Status). with_next done (r >>= (λ (o : Opening). Ok (domain_with c.args.script.now.rules (versions_in readers l.number) o)))) c.in_ok-opening.ensures
+    let versions : versions_in c.args.readers.now c.loop-number.number ≡ tables_in c.versions_at.result.now =
+    ap (λ (ts : List (List SchemaTable)). versions_in ts c.loop-number.number) c.requires.schemas ∙ sym c.versions_at.ensures.tables in
+    let made : with_next done (make c.loop-number.number domain) ≡ Ok (world_of c.args.script.now.rules c.add_device.new.devices.items) =
+    ap (λ (r : Result Opening Status). with_next done (r >>= (λ (o : Opening). Ok (domain_with c.args.script.now.rules (versions_in c.args.readers.now c.loop-number.number) o)))) c.in_ok-opening.ensures
     ∙ ap (λ (vs : List SchemaTable). Ok (done ++ domain_with c.args.script.now.rules vs opening ∷ [])) versions
     ∙ ap Ok (sym (c.in_ok-add_device.ensures c.args.script.now.rules)) in
-    goes make domains done l.number domain c.domain_at-domain.ensures.domain (each_from make 0 domains) (world_of c.args.script.now.rules c.add_device.new.devices.items) made l.invariant
+    goes make (domains_of (parts c.args.script.now)) done c.loop-number.number domain c.domain_at-domain.ensures.domain (each_from make 0 (domains_of (parts c.args.script.now))) (world_of c.args.script.now.rules c.add_device.new.devices.items) made c.loop-number.invariant

@@ -26,22 +26,18 @@ all_read schemas readers n is all =
 
 pub hub_of-requires-clause-some : goal.hub_of-requires-clause-some
 hub_of-requires-clause-some c =
-    let domains = domains_of (parts c.args.script.now) in
     let items = c.in_ok-devices.devices.items in
-    let made = each_long (opening_by c.args.script.now.rules c.args.readers.now) 0 domains (world_of c.args.script.now.rules items) c.in_ok-devices.ensures in
-    let same = length-map items (domain_of c.args.script.now.rules) in
+    let made = sym (length-map items (domain_of c.args.script.now.rules)) ∙ each_long (opening_by c.args.script.now.rules c.args.readers.now) 0 (domains_of (parts c.args.script.now)) (world_of c.args.script.now.rules items) c.in_ok-devices.ensures in
     let all = c.requires.all in
-    omega (arith, made, same, all)
+    omega (arith, made, all)
 
 pub hub_of-requires-clause-few : goal.hub_of-requires-clause-few
 hub_of-requires-clause-few c =
-    let domains = domains_of (parts c.args.script.now) in
     let items = c.in_ok-devices.devices.items in
-    let made = each_long (opening_by c.args.script.now.rules c.args.readers.now) 0 domains (world_of c.args.script.now.rules items) c.in_ok-devices.ensures in
-    let same = length-map items (domain_of c.args.script.now.rules) in
+    let made = sym (length-map items (domain_of c.args.script.now.rules)) ∙ each_long (opening_by c.args.script.now.rules c.args.readers.now) 0 (domains_of (parts c.args.script.now)) (world_of c.args.script.now.rules items) c.in_ok-devices.ensures in
     let all = c.requires.all in
     let few = c.requires.few in
-    omega (arith, made, same, all, few)
+    omega (arith, made, all, few)
 
 pub hub_of-requires-clause-closed : goal.hub_of-requires-clause-closed
 hub_of-requires-clause-closed c =

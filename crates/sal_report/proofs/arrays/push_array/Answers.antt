@@ -1,5 +1,5 @@
 use Rattle.std.proofs.Common.{◌≡◌, ℕ, List, OnOk, string_bytes, subst}
-use Rattle.sal_report.proofs.Lists.{array_written}
+use Rattle.sal_script.proofs.ArrayTexts.{array_written}
 use Rattle.sal_report.proofs.arrays.push_array.Goals as goal
 
 pub returns : goal.returns

@@ -10,10 +10,6 @@ use Rattle.sal_rules.specs.Contexts.{through_plain, from_list}
 use Rattle.sal_rules.specs.Rules.{is_there}
 use Rattle.sal_script.proofs.along_examples.two_clients_cross.Goals as goal
 
-pub returns-clause-first : goal.returns-clause-first
+pub returns : goal.returns
 unfolding read_path steps one_more named entered predicates predicate subject name single said closest first through_plain from_list is_there chars
-returns-clause-first c = simp (type_scalar, own_json, out-roll-YangType)
-
-pub returns-clause-second : goal.returns-clause-second
-unfolding read_path steps one_more named entered predicates predicate subject name single said closest first through_plain from_list is_there chars
-returns-clause-second c = simp (type_scalar, own_json, out-roll-YangType)
+returns c = record { first = simp (type_scalar, own_json, out-roll-YangType); second = simp (type_scalar, own_json, out-roll-YangType) }

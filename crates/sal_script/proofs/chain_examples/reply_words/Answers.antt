@@ -3,22 +3,6 @@ use Rattle.std.proofs.Common.{refl}
 use Rattle.std.specs.Fmt.{digits}
 use Rattle.sal_script.proofs.chain_examples.reply_words.Goals as goal
 
-pub returns-clause-chain : goal.returns-clause-chain
+pub returns : goal.returns
 unfolding digits
-returns-clause-chain c = refl
-
-pub returns-clause-decided : goal.returns-clause-decided
-unfolding digits
-returns-clause-decided c = refl
-
-pub returns-clause-decided_as_failed : goal.returns-clause-decided_as_failed
-unfolding digits
-returns-clause-decided_as_failed c = refl
-
-pub returns-clause-settled : goal.returns-clause-settled
-unfolding digits
-returns-clause-settled c = refl
-
-pub returns-clause-failed : goal.returns-clause-failed
-unfolding digits
-returns-clause-failed c = refl
+returns c = record { chain = refl; decided = refl; decided_as_failed = refl; settled = refl; failed = refl }

@@ -14,24 +14,18 @@ use Rattle.sal_client.proofs.client.ClientState.call_note.Goals as goal
 
 pub returns-in-Subscribe : goal.returns-in-Subscribe
 returns-in-Subscribe c =
-    let client = c.args.self.now in
-    let last = c.tokens_last.ensures in
-    subst (λ (w : NoteWish). Leaves (Note w) c.args.hub.now client c.subscribe.new.self client c.answer_to.result) (sym c.in-Subscribe.is)
-    (leaves_slots (Note (wishes.Subscribe c.in-Subscribe.name c.in-Subscribe.note)) c.args.hub.now c.subscribe.new.self client (made.Subscribe c.in-Subscribe.note) (last.begun, last.given, last.opened, last.called) refl c.requires.sound (λ tables read. ap (λ o. ask o (client_of client)) read) (λ r. refl)
+    subst (λ (w : NoteWish). Leaves (Note w) c.args.hub.now c.args.self.now c.subscribe.new.self c.args.self.now c.answer_to.result) (sym c.in-Subscribe.is)
+    (leaves_slots (Note (wishes.Subscribe c.in-Subscribe.name c.in-Subscribe.note)) c.args.hub.now c.subscribe.new.self c.args.self.now (made.Subscribe c.in-Subscribe.note) (c.tokens_last.ensures.begun, c.tokens_last.ensures.given, c.tokens_last.ensures.opened, c.tokens_last.ensures.called) refl c.requires.sound (λ tables read. ap (λ o. ask o (client_of c.args.self.now)) read) (λ r. refl)
     (λ _. replies.Accepted) c.subscribe.result c.answer_to.result c.subscribe.ensures.answer (subst (λ q. IsAnswer q c.answer_to.result) c.accepted.ensures c.answer_to.ensures))
 
 pub returns-in-Offer : goal.returns-in-Offer
 returns-in-Offer c =
-    let client = c.args.self.now in
-    let last = c.tokens_last.ensures in
-    subst (λ (w : NoteWish). Leaves (Note w) c.args.hub.now client c.offer.new.self client c.answer_to-in-Offer.result) (sym c.in-Offer.is)
-    (leaves_slots (Note (wishes.Offer c.in-Offer.name c.in-Offer.value c.in-Offer.note c.in-Offer.rows)) c.args.hub.now c.offer.new.self client (made.Offer c.in-Offer.note c.in-Offer.rows) (last.begun, last.given, last.opened, last.called) refl c.requires.sound (λ tables read. ap (λ o. ask o (client_of client)) read) (λ r. refl)
+    subst (λ (w : NoteWish). Leaves (Note w) c.args.hub.now c.args.self.now c.offer.new.self c.args.self.now c.answer_to-in-Offer.result) (sym c.in-Offer.is)
+    (leaves_slots (Note (wishes.Offer c.in-Offer.name c.in-Offer.value c.in-Offer.note c.in-Offer.rows)) c.args.hub.now c.offer.new.self c.args.self.now (made.Offer c.in-Offer.note c.in-Offer.rows) (c.tokens_last.ensures.begun, c.tokens_last.ensures.given, c.tokens_last.ensures.opened, c.tokens_last.ensures.called) refl c.requires.sound (λ tables read. ap (λ o. ask o (client_of c.args.self.now)) read) (λ r. refl)
     (λ count. replies.Offered count) c.offer.result c.answer_to-in-Offer.result c.offer.ensures.answer (subst (λ q. IsAnswer q c.answer_to-in-Offer.result) c.offered.ensures c.answer_to-in-Offer.ensures))
 
 pub returns : goal.returns
 returns c =
-    let client = c.args.self.now in
-    let last = c.tokens_last.ensures in
-    subst (λ (w : NoteWish). Leaves (Note w) c.args.hub.now client c.take_notes.new.self client c.answer_to-in-TakeNotes.result) (sym c.in-TakeNotes.is)
-    (leaves_slots (Note wishes.TakeNotes) c.args.hub.now c.take_notes.new.self client made.TakeNotes (last.begun, last.given, last.opened, last.called) refl c.requires.sound (λ tables read. refl) (λ r. refl)
+    subst (λ (w : NoteWish). Leaves (Note w) c.args.hub.now c.args.self.now c.take_notes.new.self c.args.self.now c.answer_to-in-TakeNotes.result) (sym c.in-TakeNotes.is)
+    (leaves_slots (Note wishes.TakeNotes) c.args.hub.now c.take_notes.new.self c.args.self.now made.TakeNotes (c.tokens_last.ensures.begun, c.tokens_last.ensures.given, c.tokens_last.ensures.opened, c.tokens_last.ensures.called) refl c.requires.sound (λ tables read. refl) (λ r. refl)
     (λ list. replies.Notes list) c.take_notes.result c.answer_to-in-TakeNotes.result c.take_notes.ensures.answer (subst (λ q. IsAnswer q c.answer_to-in-TakeNotes.result) c.notes.ensures c.answer_to-in-TakeNotes.ensures))

@@ -1,12 +1,11 @@
 -- A removal changes no slot.
-use Rattle.std.proofs.Common.{◌≡◌, Some, refl, ap, subst}
+use Rattle.std.proofs.Common.{refl, ap, subst}
 use Rattle.std.specs.Option.{option_map}
 use Rattle.sal_history.specs.declared.call.Call.TheVariants.{Unlisten as UnlistenCall}
 use Rattle.sal_history.specs.declared.reply.Reply.TheVariants.{Accepted}
 use Rattle.sal_script.specs.Play.{unlisten}
 use Rattle.sal_client.specs.declared.wish.Wish.TheVariants.{Unlisten}
 use Rattle.sal_client.specs.Answers.{IsAnswer}
-use Rattle.sal_client.specs.Slots.{held}
 use Rattle.sal_client.specs.Clients.{client_of}
 use Rattle.sal_client.specs.Followers.{listener_of}
 use Rattle.sal_client.proofs.Following.{token_of}
@@ -20,10 +19,6 @@ unlisten-requires c =
 
 pub returns : goal.returns
 returns c =
-    let client = c.args.self.now in
-    let f = c.filled-follower.result.now in
-    let found : held client.listeners c.args.slot ≡ Some f = c.filled-follower.ensures in
-    let last = c.tokens_last.ensures in
-    leaves_slots (Unlisten c.args.slot) c.args.hub.now c.unlisten.new.self client (UnlistenCall f.id.number) (last.begun, last.given, last.opened, last.called) refl c.requires.sound
-    (λ tables read. ap (λ o. unlisten (client_of client) (option_map listener_of o)) found) (λ r. refl) (λ _. Accepted) c.unlisten.result c.answer_to.result c.unlisten.ensures.answer
+    leaves_slots (Unlisten c.args.slot) c.args.hub.now c.unlisten.new.self c.args.self.now (UnlistenCall c.filled-follower.result.now.id.number) (c.tokens_last.ensures.begun, c.tokens_last.ensures.given, c.tokens_last.ensures.opened, c.tokens_last.ensures.called) refl c.requires.sound
+    (λ tables read. ap (λ o. unlisten (client_of c.args.self.now) (option_map listener_of o)) c.filled-follower.ensures) (λ r. refl) (λ _. Accepted) c.unlisten.result c.answer_to.result c.unlisten.ensures.answer
     (subst (λ q. IsAnswer q c.answer_to.result) c.accepted.ensures c.answer_to.ensures)

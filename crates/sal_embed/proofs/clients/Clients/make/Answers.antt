@@ -26,28 +26,22 @@ step-made-requires-clause-caller c =
 
 pub returns-clause-makes : goal.returns-clause-makes
 returns-clause-makes c =
-    let old = c.args.self.now in
-    let callers = old.callers.items in
-    let caller = c.index_mut-caller.result.now in
-    let at = get_at callers c.args.client caller c.requires.placed c.index_mut-caller.ensures.value in
-    let is = c.requires.callers c.args.client caller at in
-    let grows = subst (λ (n : ℕ). GrowsAtMost n old.hub c.step-made.new.hub) is.number c.step-made.ensures.grows in
+    let at = get_at c.args.self.now.callers.items c.args.client c.index_mut-caller.result.now c.requires.placed c.index_mut-caller.ensures.value in
+    let is = c.requires.callers c.args.client c.index_mut-caller.result.now at in
+    let grows = subst (λ (n : ℕ). GrowsAtMost n c.args.self.now.hub c.step-made.new.hub) is.number c.step-made.ensures.grows in
     let lasts : TokensLast = (c.tokens_last.ensures.begun, c.tokens_last.ensures.given, c.tokens_last.ensures.opened, c.tokens_last.ensures.called) in
     rw c.broken_if.ensures
-    (makes_by lasts old _ c.args.client caller c.step-made.new.self c.requires.placed at is.number refl grows (tables_of old.hub.world) (move_of c.args.step.now) c.has_grown.result
+    (makes_by lasts c.args.self.now _ c.args.client c.index_mut-caller.result.now c.step-made.new.self c.requires.placed at is.number refl grows (tables_of c.args.self.now.hub.world) (move_of c.args.step.now) c.has_grown.result
     (λ (not_grown : c.has_grown.result ≡ false).
     let few : length c.step-made.new.hub.log ≤ length c.log-calls.result.now = ltb-false (length c.log-calls.result.now) (length c.step-made.new.hub.log) (sym c.has_grown.ensures ∙ not_grown) in
     omega (arith, few, ap length c.log-calls.ensures)) refl c.step-made.result c.step-made.ensures.steps)
 
 pub returns-clause-callers : goal.returns-clause-callers
 returns-clause-callers c =
-    let old = c.args.self.now in
-    let callers = old.callers.items in
-    let caller = c.index_mut-caller.result.now in
-    let at = get_at callers c.args.client caller c.requires.placed c.index_mut-caller.ensures.value in
-    let is = c.requires.callers c.args.client caller at in
-    let grows = subst (λ (n : ℕ). GrowsAtMost n old.hub c.step-made.new.hub) is.number c.step-made.ensures.grows in
-    callers_beside (c.tokens_last.ensures.begun, c.tokens_last.ensures.given, c.tokens_last.ensures.opened, c.tokens_last.ensures.called) old.hub c.step-made.new.hub c.args.client grows callers c.step-made.new.self
+    let at = get_at c.args.self.now.callers.items c.args.client c.index_mut-caller.result.now c.requires.placed c.index_mut-caller.ensures.value in
+    let is = c.requires.callers c.args.client c.index_mut-caller.result.now at in
+    let grows = subst (λ (n : ℕ). GrowsAtMost n c.args.self.now.hub c.step-made.new.hub) is.number c.step-made.ensures.grows in
+    callers_beside (c.tokens_last.ensures.begun, c.tokens_last.ensures.given, c.tokens_last.ensures.opened, c.tokens_last.ensures.called) c.args.self.now.hub c.step-made.new.hub c.args.client grows c.args.self.now.callers.items c.step-made.new.self
     c.requires.placed c.requires.callers (subst (λ (n : ℕ). IsCaller c.step-made.new.hub n c.step-made.new.self) is.number c.step-made.ensures.caller)
 
 pub returns-clause-world : goal.returns-clause-world

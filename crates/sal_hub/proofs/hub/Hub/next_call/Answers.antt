@@ -1,16 +1,12 @@
 -- The invariants hold over the new log.
 use Rattle.std.proofs.Common.{refl}
 use Rattle.sal_history.specs.declared.call.Call.TheVariants.{NextCall}
-use Rattle.sal_hub.specs.Current.{known_of}
-use Rattle.sal_hub.specs.HubHistory.{entry_of}
 use Rattle.sal_hub.specs.Routed.{request_reply}
 use Rattle.sal_hub.proofs.Wholes.{whole_routed}
 use Rattle.sal_hub.proofs.hub.Hub.next_call.Goals as goal
 
 pub invariant_of-self : goal.invariant_of-self
 invariant_of-self c =
-    let j = c.self.inside.journal in
-    let p = c.self.inside.pipeline in
     let done = c.next_call.ensures in
-    whole_routed j c.next_call.new.journal p p c.self.inside.chains c.self.inside.marks c.self.inside.listeners c.self.inside.services c.self.invariant done.kept (entry_of (known_of j p) c.args.client NextCall) (λ m. refl)
+    whole_routed c.self.invariant done.kept c.args.client NextCall (λ m. refl)
     c.next_call.new.router request_reply c.next_call.result refl refl refl done.routed done.answer

@@ -2,15 +2,11 @@
 use Rattle.std.proofs.Common.{refl}
 use Rattle.sal_history.specs.declared.call.Call.TheVariants.{Offer}
 use Rattle.sal_history.specs.declared.reply.Reply.TheVariants.{Offered}
-use Rattle.sal_hub.specs.Current.{known_of}
-use Rattle.sal_hub.specs.HubHistory.{entry_of}
 use Rattle.sal_hub.proofs.Wholes.{whole_noted}
 use Rattle.sal_hub.proofs.hub.Hub.offer.Goals as goal
 
 pub invariant_of-self : goal.invariant_of-self
 invariant_of-self c =
-    let j = c.self.inside.journal in
-    let p = c.self.inside.pipeline in
     let done = c.offer.ensures in
-    whole_noted j c.offer.new.journal p p c.self.inside.chains c.self.inside.marks c.self.inside.listeners c.self.inside.services c.self.invariant done.kept (entry_of (known_of j p) c.args.client (Offer c.args.note c.args.rows)) (λ m. refl)
+    whole_noted c.self.invariant done.kept c.args.client (Offer c.args.note c.args.rows) (λ m. refl)
     c.offer.new.notes (λ count. Offered count) c.offer.result refl refl refl done.noted done.answer

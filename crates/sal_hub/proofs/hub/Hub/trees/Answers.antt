@@ -11,10 +11,7 @@ use Rattle.sal_hub.proofs.hub.Hub.trees.Goals as goal
 
 pub returns : goal.returns
 returns c =
-    let journal = c.self.inside.journal in
-    let p = c.self.inside.pipeline in
-    let trees = c.last_commit.result.now.trees in
     λ s.
-    same_rows trees s ∙ c.last_commit.ensures s ∙ ap (λ (xs : List Commit). tip (opening_in xs) (ops_of xs) s) c.deref.ensures.value
-    ∙ tip_is journal p c.self.invariant.kept 0 c.index.result.now (some_domain journal p c.self.invariant.kept) c.index.ensures s
+    same_rows c.last_commit.result.now.trees s ∙ c.last_commit.ensures s ∙ ap (λ (xs : List Commit). tip (opening_in xs) (ops_of xs) s) c.deref.ensures.value
+    ∙ tip_is c.self.inside.journal c.self.inside.pipeline c.self.invariant.kept 0 c.index.result.now (some_domain c.self.inside.journal c.self.inside.pipeline c.self.invariant.kept) c.index.ensures s
     ∙ ap (λ (known : HubHistory). newest_tree known.world known.log 0 s) c.self.view_is

@@ -12,12 +12,9 @@ use Rattle.sal_hub.proofs.hub.Hub.trees_of.Goals as goal
 
 pub returns : goal.returns
 returns c =
-    let journal = c.self.inside.journal in
-    let p = c.self.inside.pipeline in
-    let trees = c.last_commit.result.now.trees in
     λ s.
-    same_rows trees s ∙ c.last_commit.ensures s ∙ ap (λ (xs : List Commit). tip (opening_in xs) (ops_of xs) s) c.deref.ensures.value
-    ∙ tip_is journal p c.self.invariant.kept c.args.domain c.index.result.now (known_domain journal p c.args.self.now c.self.view_is c.args.domain c.requires) c.index.ensures s
+    same_rows c.last_commit.result.now.trees s ∙ c.last_commit.ensures s ∙ ap (λ (xs : List Commit). tip (opening_in xs) (ops_of xs) s) c.deref.ensures.value
+    ∙ tip_is c.self.inside.journal c.self.inside.pipeline c.self.invariant.kept c.args.domain c.index.result.now (known_domain c.self.inside.journal c.self.inside.pipeline c.args.self.now c.self.view_is c.args.domain c.requires) c.index.ensures s
     ∙ ap (λ (known : HubHistory). newest_tree known.world known.log c.args.domain s) c.self.view_is
 
 pub index-requires : goal.index-requires

@@ -2,15 +2,11 @@
 use Rattle.std.proofs.Common.{refl}
 use Rattle.sal_history.specs.declared.call.Call.TheVariants.{Unmount}
 use Rattle.sal_history.specs.declared.reply.Reply.TheVariants.{Accepted}
-use Rattle.sal_hub.specs.Current.{known_of}
-use Rattle.sal_hub.specs.HubHistory.{entry_of}
 use Rattle.sal_hub.proofs.Wholes.{whole_mounted}
 use Rattle.sal_hub.proofs.hub.Hub.unmount.Goals as goal
 
 pub invariant_of-self : goal.invariant_of-self
 invariant_of-self c =
-    let j = c.self.inside.journal in
-    let p = c.self.inside.pipeline in
     let done = c.unmount.ensures in
-    whole_mounted j c.unmount.new.journal p c.unmount.new.pipeline c.self.inside.chains c.self.inside.marks c.self.inside.listeners c.self.inside.services c.self.invariant done.kept (entry_of (known_of j p) c.args.client (Unmount c.args.domain)) (λ m. refl)
+    whole_mounted c.self.invariant done.kept c.args.client (Unmount c.args.domain) (λ m. refl)
     c.unmount.new.mounts (λ u. Accepted) c.unmount.result refl refl refl done.mounts done.answer

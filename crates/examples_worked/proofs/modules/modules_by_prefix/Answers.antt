@@ -1,4 +1,5 @@
 -- Each example by computation.
+use Rattle.std.proofs.Common.{refl}
 use Rattle.sal_stmt.specs.declared.stmt.Stmt.TheViews.{out-roll-Stmt}
 use Rattle.sal_module.specs.Keywords.{words, word_of}
 use Rattle.sal_module.specs.Statements.{all_named, argument_of, is_named, subs_of, value_of}
@@ -10,4 +11,5 @@ returns c = record {
   import = simp (out-roll-Stmt, all_named, argument_of, is_named, subs_of, value_of);
   own = simp (out-roll-Stmt, all_named, argument_of, is_named, subs_of, value_of);
   other = simp (out-roll-Stmt, all_named, argument_of, is_named, subs_of, value_of);
+  no_module = refl;
 }

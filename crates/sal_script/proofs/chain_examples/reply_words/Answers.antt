@@ -5,4 +5,4 @@ use Rattle.sal_script.proofs.chain_examples.reply_words.Goals as goal
 
 pub returns : goal.returns
 unfolding digits
-returns c = record { chain = refl; decided = refl; decided_as_failed = refl; settled = refl; failed = refl }
+returns c = record { chain = refl; decided = refl; decided_as_failed = refl; nothing = refl; found = refl; late = refl; settled = refl; «open» = refl; failed = refl; closed = refl }

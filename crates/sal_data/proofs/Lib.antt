@@ -2,6 +2,7 @@ pub mod CellFound
 pub mod Composed
 pub mod Consecutive
 pub mod FirstRun
+pub mod Flipped
 pub mod Following
 pub mod Fronts
 pub mod KindFacts

@@ -1,5 +1,5 @@
 //! Rows put into the order of their paths.
-ghost use Rattle.std.specs.Prelude.{◌≡◌, IfOk, OnOk, IsTrue};
+ghost use Rattle.std.specs.Prelude.{◌≡◌, ◌<◌, IfOk, OnOk, IsTrue, length};
 ghost use Rattle.std.specs.BTreeMap.{insert_entry};
 ghost use Rattle.sal_types.specs.Order.{path_cmp};
 ghost use Rattle.sal_types.specs.Tree.{IsAscending, entries};
@@ -93,9 +93,38 @@ fn settled(alloc: Global, rows: Vec<Row>) -> Result<Rows, NoMemory>
     joined(alloc, rows)
 }
 
-/// The rows in the order of their paths; of rows with one path the last is used. Rows in ascending order stay as they are; others are
-/// sorted, by n log n comparisons of paths.
-pub(crate) fn in_order(alloc: Global, mut rows: Vec<Row>) -> Result<Rows, NoMemory>
+/// Rows are sorted if they are further from their order than this many moves of one place for each row.
+const MOVES: usize = 4;
+
+/// Moves the row at the place before those that it precedes, at most so many places. The moves that are left.
+fn sunk(rows: &mut Vec<Row>, place: usize, moves: usize) -> usize
+    requires { place < length rows.old.items }
+    ensures order { spec.in_order rows.new.items ≡ spec.in_order rows.old.items }
+    ensures len { length rows.new.items ≡ length rows.old.items }
+{
+    let most = if place < moves { place } else { moves };
+    for done in 0..most {
+        let at = place - done;
+        if rows[at - 1].path <= rows[at].path {
+            return moves - done;
+        }
+        rows.swap(at - 1, at);
+    }
+    moves - most
+}
+
+/// Moves each row before those that it precedes, as long as there are moves. Rows with one path keep their order.
+fn nudge(rows: &mut Vec<Row>)
+    ensures { spec.in_order rows.new.items ≡ spec.in_order rows.old.items }
+{
+    let mut moves = rows.len().saturating_mul(MOVES);
+    for place in 1..rows.len() {
+        moves = sunk(rows, place, moves);
+    }
+}
+
+/// The tree of rows that may be out of order. It takes n log n comparisons of paths for n rows, or one for each if they are in order.
+fn sorted(alloc: Global, mut rows: Vec<Row>) -> Result<Rows, NoMemory>
     ensures { IfOk result (λ ordered. ordered ≡ spec.in_order rows.items) }
 {
     if rises(&rows) {
@@ -103,4 +132,16 @@ pub(crate) fn in_order(alloc: Global, mut rows: Vec<Row>) -> Result<Rows, NoMemo
     }
     sort(&mut rows)?;
     settled(alloc, rows)
+}
+
+/// The rows in the order of their paths; of rows with one path the last is used. Rows that are nearly in order, as those of an object whose members
+/// are named in another order than the schema's, take a few comparisons each.
+pub(crate) fn in_order(alloc: Global, mut rows: Vec<Row>) -> Result<Rows, NoMemory>
+    ensures { IfOk result (λ ordered. ordered ≡ spec.in_order rows.items) }
+{
+    if rises(&rows) {
+        return Ok(tree_of(rows));
+    }
+    nudge(&mut rows);
+    sorted(alloc, rows)
 }

@@ -11,4 +11,4 @@ returns-then-rises c =
     c.tree_of.ensures ∙ sym (in_order-rising c.args.rows.items rises)
 
 pub returns : goal.returns
-returns c = subst (λ (ordered : List Row). IfOk c.settled.result (λ tree. tree ≡ ordered)) c.in_ok-sort.ensures c.settled.ensures
+returns c = subst (λ (ordered : List Row). IfOk c.sorted.result (λ tree. tree ≡ ordered)) c.nudge.ensures c.sorted.ensures

@@ -18,7 +18,7 @@ use Rattle.sal_hub.proofs.Beginning.{quiet_kept}
 use Rattle.sal_hub.proofs.Wholes.{longer_now, made_over, seen_now, whole_steady}
 use Rattle.sal_hub.proofs.hub.Hub.after.Goals as goal
 
-module _ {j j' : Noted} {p : Pipeline} {cs : Chains} {ms : Marks} {ls : Listeners} {sv : Services} (whole : IsWhole j p cs ms ls sv) (client mark : ℕ) (log : j'.log ≡ jotted j.log client (After mark)) where
+module _ {j : Noted} (j' : Noted) {p : Pipeline} {cs : Chains} {ms : Marks} {ls : Listeners} {sv : Services} (whole : IsWhole j p cs ms ls sv) (client mark : ℕ) (log : j'.log ≡ jotted j.log client (After mark)) where
   looked_whole : ((k : ℕ) → mark_at j'.marks k ≡ mark_at j.marks k) → IsWhole j' p cs ms ls sv
   looked_whole marks =
       whole_steady j j' p p cs ms ls sv whole (quiet_kept j j' p whole.kept client (After mark) log refl refl refl refl (λ k. refl) refl marks)
@@ -28,13 +28,17 @@ module _ {j j' : Noted} {p : Pipeline} {cs : Chains} {ms : Marks} {ls : Listener
   looked_made known view room b is = made_over j j' p cs ms ls sv whole client (After mark) log known (if b then Found else Late) view room (seen_now j p cs ms ls sv client mark b whole is)
 
 pub invariant_of-self-then-has : goal.invariant_of-self-then-has
-invariant_of-self-then-has c = looked_whole c.self.invariant c.args.client c.args.mark c.in-Ok.ensures.log c.in-Ok.ensures.marks
+invariant_of-self-then-has c = looked_whole c.add.new.self c.self.invariant c.args.client c.args.mark c.in-Ok.ensures.log c.in-Ok.ensures.marks
 
 pub returns-then-has-clause-answer : goal.returns-then-has-clause-answer
-returns-then-has-clause-answer c = looked_made c.self.invariant c.args.client c.args.mark c.in-Ok.ensures.log c.args.self.now c.self.view_is (grind (arith, common_steps)) true (sym c.has.ensures ∙ c.if-has.true)
+returns-then-has-clause-answer c =
+    let room : length c.self.inside.journal.log < 1000000 = grind (arith, common_steps) in
+    looked_made c.add.new.self c.self.invariant c.args.client c.args.mark c.in-Ok.ensures.log c.args.self.now c.self.view_is room true (sym c.has.ensures ∙ c.if-has.true)
 
 pub invariant_of-self-2 : goal.invariant_of-self-2
-invariant_of-self-2 c = looked_whole c.self.invariant c.args.client c.args.mark c.in-Ok.ensures.log c.in-Ok.ensures.marks
+invariant_of-self-2 c = looked_whole c.add.new.self c.self.invariant c.args.client c.args.mark c.in-Ok.ensures.log c.in-Ok.ensures.marks
 
 pub returns-clause-answer : goal.returns-clause-answer
-returns-clause-answer c = looked_made c.self.invariant c.args.client c.args.mark c.in-Ok.ensures.log c.args.self.now c.self.view_is (grind (arith, common_steps)) false (sym c.has.ensures ∙ c.if-has.false)
+returns-clause-answer c =
+    let room : length c.self.inside.journal.log < 1000000 = grind (arith, common_steps) in
+    looked_made c.add.new.self c.self.invariant c.args.client c.args.mark c.in-Ok.ensures.log c.args.self.now c.self.view_is room false (sym c.has.ensures ∙ c.if-has.false)

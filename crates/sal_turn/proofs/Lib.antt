@@ -1,3 +1,4 @@
+pub mod AllJoined
 pub mod Close
 pub mod Draw
 pub mod EachSeat

@@ -6,6 +6,7 @@
 //! | `Turn` | the lock; a contract sees it as its name |
 //! | `Seat` | a caller's place at the lock, between two turns; a contract sees its lock and what it knows, a `View` |
 //! | `Held` | a turn: the value in the hands of one seat; a contract sees the entries that were found, too |
+//! | `Caller` | a seat that makes whole turns, each in one call (`make_turn`); a contract sees the seat |
 //! | `View`, `Stage` | what a seat knows; its state. Contracts only: no value of them exists at run time |
 //!
 //! A seat knows a beginning of the entries, its list *seen*, and all entries of its number, its *own* entries. In its turn it
@@ -23,8 +24,9 @@
 //! let book = turn.close(turn.join(seat, other));
 //! ```
 //!
-//! `specs/` has the rule of the lock (`Rule`), the effect of its steps on a seat (`Tells`), and what seats know (`Views`). The
-//! lock is two atomic words, the next ticket and the turn served, and one slot for the value, on a table of `atomic_table`.
+//! `specs/` has the rule of the lock (`Rule`), the effect of its steps on a seat (`Tells`), what seats know (`Views`), and the effect of a
+//! whole turn (`Turns`). The lock is two atomic words, the next ticket and the turn served, and one slot for the value, on a table of
+//! `atomic_table`.
 //!
 //! | call | cost |
 //! |---|---|
@@ -32,10 +34,11 @@
 //! | `enter` | two loads if the lock is free, one atomic step for the ticket, and a load for each look; for a busy lock see below |
 //! | `value`, `peek` | none |
 //! | `leave` | two atomic steps, two loads that look for sleepers, a step more to call one, and a call of the system for each that it wakes |
+//! | `make_turn` | `enter` and `leave`, and what the call costs |
 //! | `split`, `join` | one or two atomic steps |
 //! | `close` | frees the table's memory |
 //!
-//! Only `open` takes memory, and only `enter` waits. No contract says that a call of `enter` returns: a turn that never
+//! Only `open` takes memory, and only `enter` and `make_turn` wait. No contract says that a call of `enter` returns: a turn that never
 //! ends blocks all other seats.
 //!
 //! # How a seat waits
@@ -82,6 +85,7 @@
 //! other seat comes, each woken seat leaves and calls the next, until none sleeps.
 #![tactic(auto)]
 
+mod caller;
 mod chronicle;
 mod held;
 mod rule;
@@ -91,6 +95,7 @@ mod turn;
 mod view;
 mod waits;
 
+pub use caller::Caller;
 pub use chronicle::Chronicle;
 pub use held::Held;
 pub use seat::Seat;

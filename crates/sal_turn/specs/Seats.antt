@@ -1,5 +1,5 @@
 -- How a clause sees a seat and its turn.
-use Rattle.std.specs.Prelude.{List, [], Option, Some, None}
+use Rattle.std.specs.Prelude.{List, []}
 pub use Rattle.atomic_table.specs.Seated.{TableId}
 use Rattle.sal_turn.specs.Views.{spent}
 use Rattle.sal_turn.specs.declared.view.View.{View}
@@ -19,8 +19,3 @@ pub record Holding (V E G : Type 0) : Type 0 where
 -- no seat: the value of a larger type while its seat has a turn
 abbrev pub nowhere : {E G : Type 0} → Place E G
 nowhere = record { lock = record { words = 0; slots = 0; views_name = 0; atom = 0; block = 0; offset = 0; slot_names = [] }; view = spent }
-
--- the place in the slot, or none while the seat has its turn
-abbrev pub inside : {E G : Type 0} → Option (Place E G) → Place E G
-inside (Some place) = place
-inside None = nowhere

@@ -3,10 +3,9 @@
 //! | item | what it is |
 //! |---|---|
 //! | `Chronicle` | a value that keeps a list of entries, each of one client, and a ground that no turn changes |
-//! | `Turn` | the lock; a contract sees it as its name |
+//! | `Turn` | the lock; a contract sees it as its name. `make_turn` makes a whole turn by a closure |
 //! | `Seat` | a caller's place at the lock, between two turns; a contract sees its lock and what it knows, a `View` |
 //! | `Held` | a turn: the value in the hands of one seat; a contract sees the entries that were found, too |
-//! | `Caller` | a seat that makes whole turns, each in one call (`make_turn`); a contract sees the seat |
 //! | `View`, `Stage` | what a seat knows; its state. Contracts only: no value of them exists at run time |
 //!
 //! A seat knows a beginning of the entries, its list *seen*, and all entries of its number, its *own* entries. In its turn it
@@ -85,17 +84,16 @@
 //! other seat comes, each woken seat leaves and calls the next, until none sleeps.
 #![tactic(auto)]
 
-mod caller;
 mod chronicle;
 mod held;
 mod rule;
 mod seat;
 mod steps;
 mod turn;
+mod turns;
 mod view;
 mod waits;
 
-pub use caller::Caller;
 pub use chronicle::Chronicle;
 pub use held::Held;
 pub use seat::Seat;

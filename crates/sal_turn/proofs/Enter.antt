@@ -8,7 +8,7 @@ use Rattle.sal_turn.specs.declared.view.Stage.{Stage}
 use Rattle.sal_turn.specs.declared.view.Stage.TheVariants.{Idle, Waits, HasTurn}
 use Rattle.sal_turn.specs.Entries.{entries_by}
 use Rattle.sal_turn.specs.Stages.{ticket, entries_found}
-use Rattle.sal_turn.specs.Tells.{FitsSeat, LookTells}
+use Rattle.sal_turn.specs.Tells.{Begun, FitsSeat, LookTells}
 use Rattle.sal_turn.specs.Views.{at_stage}
 
 first_out : {A : Type 0} → A → List (ℕ × A) → A
@@ -34,19 +34,8 @@ module _ {V E G : Type 0} (entries : V → List E) (client : E → ℕ) (ground 
       let o = l.2 (hit ∙ sym low ∙ ap (λ t. t % 2 ^ 64) (sym is)) in
       (o.0, o.1 ∙ (λ i. (at_stage (HasTurn (is i) (entries o.0)) m.0, (0, Some o.0) ∷ none_out i)), o.2)
 
-  -- a turn: the view u of the seat before, the seat with the slot emptied, and the value y
-  pub record Begun (u : View E G) (m : Me (Option V) (View E G)) (y : V) : Type 0 where
-    pub carries : m.1 ≡ (0, None) ∷ []
-    pub staged : (t : ℕ) × (m.0.stage ≡ HasTurn t (entries_found m.0.stage))
-    pub found : entries y ≡ entries_found m.0.stage
-    pub same : at_stage Idle m.0 ≡ u
-    pub seen : IsPrefix u.seen (entries_found m.0.stage)
-    pub own : entries_by client u.number (entries_found m.0.stage) ≡ u.own
-    pub mine : entries_by client m.0.number (entries_found m.0.stage) ≡ m.0.own
-    pub grounded : u.ground ≡ Some (ground y)
-
   pub lifts : (slots t r own : ℕ) (u : View E G) (m m1 m2 : Me (Option V) (View E G)) (out : Option V) (y : V) → m.1 ≡ [] → at_stage Idle m.0 ≡ u → m.0.stage ≡ Waits t → t % 2 ^ 64 ≡ own → r ≡ own → LookTells entries client ground (step slots 1 0 0 none) m r m1
-      → m1.1 ≡ (0, out) ∷ rest m1.1 → m2 ≡ (m1.0, (0, None) ∷ rest m1.1) → out ≡ Some y → Begun u m2 y
+      → m1.1 ≡ (0, out) ∷ rest m1.1 → m2 ≡ (m1.0, (0, None) ∷ rest m1.1) → out ≡ Some y → Begun entries client ground u m2 y
   lifts slots t r own u m m1 m2 out y none_out view waits low hit l found left is =
       let h = hits slots t r own m m1 none_out waits low hit l in
       let x = h.0 in

@@ -1,3 +1,4 @@
+pub mod AllJoined
 pub mod Close
 pub mod Draw
 pub mod EachSeat
@@ -8,6 +9,7 @@ pub mod Join
 pub mod Joined
 pub mod Lists
 pub mod Look
+pub mod Made
 pub mod Open
 pub mod Pass
 pub mod Split

@@ -10,7 +10,7 @@ use native.Mathlib.Decide.{ℕ_discrete}
 use prog.Atomic.{either}
 use lib.ListN.{get_elem?}
 use Rattle.std.proofs.lemmas.Bool.Decides.{nat_tests}
-use Rattle.sal_turn.specs.Entries.{entries_by, AddsAtMostOne}
+use Rattle.sal_turn.specs.Entries.{AddsAtMostOne, Leaves, entries_by}
 use Rattle.sal_turn.specs.Lists.{In, longer, shorter}
 
 module _ {A : Type 0} where
@@ -92,6 +92,16 @@ module _ {E : Type 0} (client : E → ℕ) where
   by_other k me found now ne adds = ⊎_elim (λ (e : now ≡ found). ap (entries_by client k) e)
       (λ (h : (e : E) × (client e ≡ me) × (now ≡ found ++ e ∷ [])).
       ap (entries_by client k) h.2 ∙ (filter-append (λ e. client e == k) found (h.0 ∷ []) ∙ (ap (λ es. entries_by client k found ++ es) (by_none k h.0 (λ is. ne (sym is ∙ h.1))) ∙ append-nil (entries_by client k found))))
+      adds
+
+  by_same : (k : ℕ) (e : E) → client e ≡ k → entries_by client k (e ∷ []) ≡ e ∷ []
+  by_same k e is = ap (λ (b : Bool). cond b (e ∷ []) []) (Rattle.std.proofs.Common.eq-eqb (client e) k is)
+
+  -- the entries of its own number
+  pub by_own : (k : ℕ) (found own now : List E) → entries_by client k found ≡ own → AddsAtMostOne client k found now → Leaves client k found own now (entries_by client k now)
+  by_own k found own now mine adds = ⊎_elim (λ (e : now ≡ found). inl (e, ap (entries_by client k) e ∙ mine))
+      (λ (h : (e : E) × (client e ≡ k) × (now ≡ found ++ e ∷ [])).
+      inr (h.0, h.1, h.2, ap (entries_by client k) h.2 ∙ (filter-append (λ e. client e == k) found (h.0 ∷ []) ∙ (ap (λ es. entries_by client k found ++ es) (by_same k h.0 h.1) ∙ ap (λ es. es ++ h.0 ∷ []) mine))))
       adds
 
   pub adds_behind : (me : ℕ) (found now : List E) → AddsAtMostOne client me found now → IsPrefix found now

@@ -1,8 +1,9 @@
 -- What each step of the lock does to the seat that makes it: from its knowledge and the word found to its new knowledge.
-use Rattle.std.specs.Prelude.{◌≡◌, ◌≢◌, ℕ, ◌+◌, ◌%◌, ◌^◌, List, [], ◌∷◌, Option, Some}
+use Rattle.std.specs.Prelude.{◌≡◌, ◌≢◌, ℕ, ◌+◌, ◌%◌, ◌^◌, List, [], ◌∷◌, Option, Some, None}
 use mathlib.Core.List.{IsPrefix}
 use Rattle.atomic_table.specs.Table.{Me, Step}
 use Rattle.sal_turn.specs.Entries.{entries_by}
+use Rattle.sal_turn.specs.Stages.{entries_found}
 use Rattle.sal_turn.specs.Views.{at_stage}
 use Rattle.sal_turn.specs.declared.view.View.{View}
 use Rattle.sal_turn.specs.declared.view.Stage.TheVariants.{Idle, Names, Waits, HasTurn, Compares}
@@ -44,3 +45,14 @@ module _ {V E G : Type 0} (entries : V → List E) (client : E → ℕ) (ground 
   -- compare: of the lists seen of the two joined seats, the shorter is a prefix of the longer
   abbrev pub CompareTells : Step (Option V) → Seated → ℕ → Seated → Type 0
   CompareTells step m word m' = (l : List E) × (m.0.stage ≡ Compares l) × (m' ≡ (at_stage Idle m.0, m.1)) × IsPrefix l m.0.seen
+
+  -- a turn has begun: the view u of the seat before, the seat with the slot emptied, and the value y
+  pub record Begun (u : View E G) (m : Seated) (y : V) : Type 0 where
+    pub carries : m.1 ≡ (0, None) ∷ []
+    pub staged : (t : ℕ) × (m.0.stage ≡ HasTurn t (entries_found m.0.stage))
+    pub found : entries y ≡ entries_found m.0.stage
+    pub same : at_stage Idle m.0 ≡ u
+    pub seen : IsPrefix u.seen (entries_found m.0.stage)
+    pub own : entries_by client u.number (entries_found m.0.stage) ≡ u.own
+    pub mine : entries_by client m.0.number (entries_found m.0.stage) ≡ m.0.own
+    pub grounded : u.ground ≡ Some (ground y)

@@ -3,7 +3,7 @@
 //! | item | what it is |
 //! |---|---|
 //! | `Chronicle` | a value that keeps a list of entries, each of one client, and a ground that no turn changes |
-//! | `Turn` | the lock; a contract sees it as its name |
+//! | `Turn` | the lock; a contract sees it as its name. `make_turn` makes a whole turn by a closure |
 //! | `Seat` | a caller's place at the lock, between two turns; a contract sees its lock and what it knows, a `View` |
 //! | `Held` | a turn: the value in the hands of one seat; a contract sees the entries that were found, too |
 //! | `View`, `Stage` | what a seat knows; its state. Contracts only: no value of them exists at run time |
@@ -23,8 +23,9 @@
 //! let book = turn.close(turn.join(seat, other));
 //! ```
 //!
-//! `specs/` has the rule of the lock (`Rule`), the effect of its steps on a seat (`Tells`), and what seats know (`Views`). The
-//! lock is two atomic words, the next ticket and the turn served, and one slot for the value, on a table of `atomic_table`.
+//! `specs/` has the rule of the lock (`Rule`), the effect of its steps on a seat (`Tells`), what seats know (`Views`), and the effect of a
+//! whole turn (`Turns`). The lock is two atomic words, the next ticket and the turn served, and one slot for the value, on a table of
+//! `atomic_table`.
 //!
 //! | call | cost |
 //! |---|---|
@@ -32,10 +33,11 @@
 //! | `enter` | two loads if the lock is free, one atomic step for the ticket, and a load for each look; for a busy lock see below |
 //! | `value`, `peek` | none |
 //! | `leave` | two atomic steps, two loads that look for sleepers, a step more to call one, and a call of the system for each that it wakes |
+//! | `make_turn` | `enter` and `leave`, and what the call costs |
 //! | `split`, `join` | one or two atomic steps |
 //! | `close` | frees the table's memory |
 //!
-//! Only `open` takes memory, and only `enter` waits. No contract says that a call of `enter` returns: a turn that never
+//! Only `open` takes memory, and only `enter` and `make_turn` wait. No contract says that a call of `enter` returns: a turn that never
 //! ends blocks all other seats.
 //!
 //! # How a seat waits
@@ -88,6 +90,7 @@ mod rule;
 mod seat;
 mod steps;
 mod turn;
+mod turns;
 mod view;
 mod waits;
 

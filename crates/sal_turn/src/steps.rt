@@ -1,4 +1,6 @@
 //! The atomic steps of the lock, with their effect on the seat that makes them. These types are for the proofs alone.
+ghost use Rattle.sal_turn.specs.Tells.{CompareTells, DrawTells, LookTells, NameTells, PassTells};
+
 use crate::chronicle::Chronicle;
 use crate::view::View;
 use atomic_table::{Join, Play, Split};
@@ -7,8 +9,6 @@ use atomic_table::{Join, Play, Split};
 pub(crate) struct Draw;
 
 impl<V: Chronicle> Play<Option<V>, View<V::Entry, V::Ground>> for Draw {
-    ghost use Rattle.sal_turn.specs.Tells.{DrawTells};
-
     ghost then = { DrawTells V.entries V.client V.ground };
 }
 
@@ -16,8 +16,6 @@ impl<V: Chronicle> Play<Option<V>, View<V::Entry, V::Ground>> for Draw {
 pub(crate) struct Look;
 
 impl<V: Chronicle> Play<Option<V>, View<V::Entry, V::Ground>> for Look {
-    ghost use Rattle.sal_turn.specs.Tells.{LookTells};
-
     ghost then = { LookTells V.entries V.client V.ground };
 }
 
@@ -25,8 +23,6 @@ impl<V: Chronicle> Play<Option<V>, View<V::Entry, V::Ground>> for Look {
 pub(crate) struct Pass;
 
 impl<V: Chronicle> Play<Option<V>, View<V::Entry, V::Ground>> for Pass {
-    ghost use Rattle.sal_turn.specs.Tells.{PassTells};
-
     ghost then = { PassTells V.entries V.client V.ground };
 }
 
@@ -34,8 +30,6 @@ impl<V: Chronicle> Play<Option<V>, View<V::Entry, V::Ground>> for Pass {
 pub(crate) struct Name;
 
 impl<V: Chronicle> Play<Option<V>, View<V::Entry, V::Ground>> for Name {
-    ghost use Rattle.sal_turn.specs.Tells.{NameTells};
-
     ghost then = { NameTells V.entries V.client V.ground };
 }
 
@@ -43,8 +37,6 @@ impl<V: Chronicle> Play<Option<V>, View<V::Entry, V::Ground>> for Name {
 pub(crate) struct Compare;
 
 impl<V: Chronicle> Play<Option<V>, View<V::Entry, V::Ground>> for Compare {
-    ghost use Rattle.sal_turn.specs.Tells.{CompareTells};
-
     ghost then = { CompareTells V.entries V.client V.ground };
 }
 

@@ -9,7 +9,7 @@ use crate::chronicle::Chronicle;
 use crate::held::Held;
 use crate::rule::{Opening, Ticketed};
 use crate::seat::Seat;
-use crate::steps::{Compare, Draw, JoinSeats, Look, Name, Pass, SplitSeat};
+use crate::steps::{Compare, JoinSeats, Name, SplitSeat};
 use crate::view::View;
 use crate::waits::Sleepers;
 use atomic_table::Table;
@@ -24,7 +24,7 @@ pub(crate) const NEXT_TICKET: usize = 0;
 
 pub(crate) const TURN_SERVED: usize = 1;
 
-const VALUE: usize = 0;
+pub(crate) const VALUE: usize = 0;
 
 /// The lock: the next ticket, the turn served, and the value, which is out while a seat has its turn. A contract sees its name.
 #[derive(Drop)]
@@ -81,25 +81,12 @@ impl<V: Chronicle> Turn<V> {
         ensures ground { seat.view.ground ≡ Some (V.ground result.value) }
     {
         let Seat { mut token, number } = seat;
-        self.wait_outside(rt);
-        let ticket = self
-            .table
-            .shared
-            .fetch_add::<Draw>(&mut token, NEXT_TICKET, 1);
-        for _ in rt.forever() {
-            if self.table.shared.load::<Look>(&mut token, TURN_SERVED) == ticket {
-                let Some(value) = self.table.shared.exchange(&mut token, VALUE, None) else {
-                    unreachable!()
-                };
-                return Held {
-                    token,
-                    number,
-                    value,
-                };
-            }
-            self.wait_at_door(rt, ticket);
+        let value = self.begin(rt, &mut token);
+        Held {
+            token,
+            number,
+            value,
         }
-        unreachable!()
     }
 
     /// Ends a turn. The value has the same ground, and the entries that were found, or these with one more of the
@@ -118,13 +105,7 @@ impl<V: Chronicle> Turn<V> {
             number,
             value,
         } = held;
-        let before = self.table.shared.exchange(&mut token, VALUE, Some(value));
-        let None = before else { unreachable!() };
-        let served = self
-            .table
-            .shared
-            .fetch_add::<Pass>(&mut token, TURN_SERVED, 1);
-        self.sleepers.wake(served.wrapping_add(1));
+        self.end(&mut token, value);
         Seat { token, number }
     }
 

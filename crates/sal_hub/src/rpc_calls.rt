@@ -4,11 +4,11 @@ ghost use Rattle.sal_history.specs.declared.call.Call.TheVariants.{Answer, Colle
 ghost use Rattle.sal_history.specs.declared.reply.Reply.TheVariants.{Accepted, CallMade};
 ghost use Rattle.sal_history.specs.Services as services;
 ghost use Rattle.sal_hub.specs.declared.call_id.CallId.{CallId as Given};
-ghost use Rattle.sal_hub.specs.Answers.{Calls, limit};
-ghost use Rattle.sal_hub.specs.Current.{IsKept, known_of};
+ghost use Rattle.sal_hub.specs.Answers.{CallsOver, limit};
+ghost use Rattle.sal_hub.specs.Current.{known_of};
 ghost use Rattle.sal_hub.specs.Journals.{jotted, mark_at, taken_back};
-ghost use Rattle.sal_hub.specs.HubHistory.{entry_of};
 ghost use Rattle.sal_hub.specs.Routed.{AreRouted, left_by, collect_reply, request_reply};
+ghost use Rattle.sal_hub.specs.Services.{IsServed};
 ghost use Rattle.sal_hub.specs.Tokens.{IsCall};
 
 use crate::call_id::CallId;
@@ -37,6 +37,14 @@ pub(crate) struct RpcAsk {
     pub(crate) input: Rows,
 }
 
+/// A client's answer: the number of the request, with the output.
+#[derive(Drop)]
+pub(crate) struct Answering {
+    pub(crate) client: u32,
+    pub(crate) id: u64,
+    pub(crate) output: Rows,
+}
+
 /// Registers the client for the RPC, unless that is refused, and adds the entry.
 pub(crate) fn provide(
     pipeline: &Pipeline,
@@ -44,12 +52,10 @@ pub(crate) fn provide(
     router: &mut Router,
     registration: Registration,
 ) -> Result<(), CallFault>
-    requires kept { IsKept journal.old pipeline.now }
-    requires routed { AreRouted (known_of journal.old pipeline.now) router.old }
+    requires service { IsServed AreRouted journal.old pipeline.now router.old }
     requires room { length journal.old.log < limit }
-    ensures kept { IsKept journal.new pipeline.now }
-    ensures routed { AreRouted (known_of journal.new pipeline.now) router.new }
-    ensures answer { Calls (known_of journal.old pipeline.now) (known_of journal.new pipeline.now) (entry_of (known_of journal.old pipeline.now) registration.client (Provide registration.rpc registration.context)) (λ _. Accepted) result }
+    ensures service { IsServed AreRouted journal.new pipeline.now router.new }
+    ensures answer { CallsOver pipeline.now journal.old journal.new registration.client (Provide registration.rpc registration.context) (λ _. Accepted) result }
 {
     match enter_provide(journal, &registration) {
         Ok(()) => {}
@@ -68,12 +74,10 @@ pub(crate) fn withdraw(
     router: &mut Router,
     registration: Registration,
 ) -> Result<(), CallFault>
-    requires kept { IsKept journal.old pipeline.now }
-    requires routed { AreRouted (known_of journal.old pipeline.now) router.old }
+    requires service { IsServed AreRouted journal.old pipeline.now router.old }
     requires room { length journal.old.log < limit }
-    ensures kept { IsKept journal.new pipeline.now }
-    ensures routed { AreRouted (known_of journal.new pipeline.now) router.new }
-    ensures answer { Calls (known_of journal.old pipeline.now) (known_of journal.new pipeline.now) (entry_of (known_of journal.old pipeline.now) registration.client (Withdraw registration.rpc registration.context)) (λ _. Accepted) result }
+    ensures service { IsServed AreRouted journal.new pipeline.now router.new }
+    ensures answer { CallsOver pipeline.now journal.old journal.new registration.client (Withdraw registration.rpc registration.context) (λ _. Accepted) result }
 {
     match enter_withdraw(journal, &registration) {
         Ok(()) => {}
@@ -93,12 +97,10 @@ pub(crate) fn invoke(
     router: &mut Router,
     ask: RpcAsk,
 ) -> Result<CallId, CallFault>
-    requires kept { IsKept journal.old pipeline.now }
-    requires routed { AreRouted (known_of journal.old pipeline.now) router.old }
+    requires service { IsServed AreRouted journal.old pipeline.now router.old }
     requires room { length journal.old.log < limit }
-    ensures kept { IsKept journal.new pipeline.now }
-    ensures routed { AreRouted (known_of journal.new pipeline.now) router.new }
-    ensures answer { Calls (known_of journal.old pipeline.now) (known_of journal.new pipeline.now) (entry_of (known_of journal.old pipeline.now) ask.client (Invoke ask.rpc ask.context ask.input)) (λ (id : Given). CallMade id.number) result }
+    ensures service { IsServed AreRouted journal.new pipeline.now router.new }
+    ensures answer { CallsOver pipeline.now journal.old journal.new ask.client (Invoke ask.rpc ask.context ask.input) (λ (id : Given). CallMade id.number) result }
     ensures given { IfOk result (IsCall (known_of journal.new pipeline.now)) }
     ensures rpc { IfOk result (λ id. id.rpc ≡ ask.rpc) }
 {
@@ -120,12 +122,10 @@ pub(crate) fn next_call(
     router: &mut Router,
     client: u32,
 ) -> Result<Option<Request>, CallFault>
-    requires kept { IsKept journal.old pipeline.now }
-    requires routed { AreRouted (known_of journal.old pipeline.now) router.old }
+    requires service { IsServed AreRouted journal.old pipeline.now router.old }
     requires room { length journal.old.log < limit }
-    ensures kept { IsKept journal.new pipeline.now }
-    ensures routed { AreRouted (known_of journal.new pipeline.now) router.new }
-    ensures answer { Calls (known_of journal.old pipeline.now) (known_of journal.new pipeline.now) (entry_of (known_of journal.old pipeline.now) client NextCall) request_reply result }
+    ensures service { IsServed AreRouted journal.new pipeline.now router.new }
+    ensures answer { CallsOver pipeline.now journal.old journal.new client NextCall request_reply result }
 {
     match journal.add(client, Call::NextCall) {
         Ok(()) => {}
@@ -140,22 +140,18 @@ pub(crate) fn answer(
     pipeline: &Pipeline,
     journal: &mut Journal,
     router: &mut Router,
-    client: u32,
-    id: u64,
-    output: Rows,
+    answering: Answering,
 ) -> Result<(), CallFault>
-    requires kept { IsKept journal.old pipeline.now }
-    requires routed { AreRouted (known_of journal.old pipeline.now) router.old }
+    requires service { IsServed AreRouted journal.old pipeline.now router.old }
     requires room { length journal.old.log < limit }
-    ensures kept { IsKept journal.new pipeline.now }
-    ensures routed { AreRouted (known_of journal.new pipeline.now) router.new }
-    ensures answer { Calls (known_of journal.old pipeline.now) (known_of journal.new pipeline.now) (entry_of (known_of journal.old pipeline.now) client (Answer id output)) (λ _. Accepted) result }
+    ensures service { IsServed AreRouted journal.new pipeline.now router.new }
+    ensures answer { CallsOver pipeline.now journal.old journal.new answering.client (Answer answering.id answering.output) (λ _. Accepted) result }
 {
-    match enter_answer(journal, client, id, &output) {
+    match enter_answer(journal, &answering) {
         Ok(()) => {}
         Err(NoMemory) => return Err(CallFault::NoMemory),
     }
-    match router.answer(client, id, output) {
+    match router.answer(answering.client, answering.id, answering.output) {
         Ok(()) => Ok(()),
         Err(fault) => Err(rpc_fault(fault)),
     }
@@ -169,13 +165,11 @@ pub(crate) fn collect(
     client: u32,
     id: CallId,
 ) -> Result<Option<Rows>, CallFault>
-    requires kept { IsKept journal.old pipeline.now }
-    requires routed { AreRouted (known_of journal.old pipeline.now) router.now }
+    requires service { IsServed AreRouted journal.old pipeline.now router.now }
     requires room { length journal.old.log < limit }
     requires token { IsCall (known_of journal.old pipeline.now) id }
-    ensures kept { IsKept journal.new pipeline.now }
-    ensures routed { AreRouted (known_of journal.new pipeline.now) router.now }
-    ensures answer { Calls (known_of journal.old pipeline.now) (known_of journal.new pipeline.now) (entry_of (known_of journal.old pipeline.now) client (Collect id.number)) (collect_reply id.rpc) result }
+    ensures service { IsServed AreRouted journal.new pipeline.now router.now }
+    ensures answer { CallsOver pipeline.now journal.old journal.new client (Collect id.number) (collect_reply id.rpc) result }
 {
     let number = id.number();
     match journal.add(client, Call::Collect { id: number }) {
@@ -267,12 +261,13 @@ fn enter_invoke(journal: &mut Journal, ask: &RpcAsk) -> Result<(), NoMemory>
 }
 
 // Adds the entry of an answer.
-fn enter_answer(journal: &mut Journal, client: u32, id: u64, output: &Rows) -> Result<(), NoMemory>
+fn enter_answer(journal: &mut Journal, answering: &Answering) -> Result<(), NoMemory>
     requires { length journal.old.log < limit }
-    ensures log { OnOk result (journal.new.log ≡ jotted journal.old.log client (Answer id output.now)) }
+    ensures log { OnOk result (journal.new.log ≡ jotted journal.old.log answering.now.client (Answer answering.now.id answering.now.output)) }
     ensures marks { OnOk result ((k : ℕ) → mark_at journal.new.marks k ≡ mark_at journal.old.marks k) }
     ensures err { OnErr result (journal.new ≡ journal.old) }
 {
-    let output = output.copy()?;
-    journal.add(client, Call::Answer { id, output })
+    let output = answering.output.copy()?;
+    let id = answering.id;
+    journal.add(answering.client, Call::Answer { id, output })
 }

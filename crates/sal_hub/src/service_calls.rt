@@ -12,7 +12,7 @@ use crate::call_id::CallId;
 use crate::hub::Hub;
 use crate::note_calls::{Offering, offer, subscribe, take_notes};
 use crate::rpc_calls::{
-    Registration, RpcAsk, answer, collect, invoke, next_call, provide, withdraw,
+    Answering, Registration, RpcAsk, answer, collect, invoke, next_call, provide, withdraw,
 };
 use sal_note::NoteList;
 use sal_rows::{CallFault, Rows};
@@ -132,13 +132,12 @@ impl Hub {
         if self.journal.is_full() {
             return Err(CallFault::HistoryFull);
         }
+        let answering = Answering { client, id, output };
         answer(
             &self.pipeline,
             &mut self.journal,
             &mut self.services.router,
-            client,
-            id,
-            output,
+            answering,
         )
     }
 

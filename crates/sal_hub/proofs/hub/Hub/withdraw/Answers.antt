@@ -8,5 +8,5 @@ use Rattle.sal_hub.proofs.hub.Hub.withdraw.Goals as goal
 pub invariant_of-self : goal.invariant_of-self
 invariant_of-self c =
     let done = c.withdraw.ensures in
-    whole_routed c.self.invariant done.kept c.args.client (Withdraw c.args.rpc c.args.context) (λ m. refl)
-    c.withdraw.new.router (λ u. Accepted) c.withdraw.result refl refl refl done.routed done.answer
+    whole_routed c.self.invariant done.service.kept c.args.client (Withdraw c.args.rpc c.args.context) (λ m. refl)
+    c.withdraw.new.router (λ u. Accepted) c.withdraw.result refl refl refl done.service.served done.answer

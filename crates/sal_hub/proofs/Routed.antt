@@ -1,5 +1,5 @@
 -- The calls on the router among those of the log: the state after a call, and its answer.
-use Rattle.std.proofs.Common.{◌≡◌, ℕ, zero, suc, ◌+◌, ◌<◌, true, List, [], ◌∷◌, ◌++◌, length, Option, None, Some, refl, ap, sym, ◌∙◌, subst, arith, append-nil, if◌then◌else◌}
+use Rattle.std.proofs.Common.{◌≡◌, ℕ, zero, suc, ◌+◌, ◌<◌, true, false, List, [], ◌∷◌, ◌++◌, length, Option, None, Some, Result, Ok, Err, refl, ap, sym, ◌∙◌, subst, arith, append-nil, if◌then◌else◌}
 use Rattle.std.specs.Prelude.{is_some, unwrap_or}
 use Rattle.std.specs.Option.{option_map, option_to_list}
 use Rattle.std.proofs.lemmas.List.Elements.{filter_map-append}
@@ -17,18 +17,17 @@ use Rattle.sal_rpc.specs.declared.call.RpcReply.TheVariants as replies
 use Rattle.sal_rpc.specs.Answers as router
 use Rattle.sal_rpc.specs.Routes.{IsOf, Routes, next_reply}
 use Rattle.sal_rpc.specs.Routing.{Asked, Made as Routed, Requested, made_of, make, output, owner_of, reply_to as routed_to, request_at, requested, requests, sent_to}
-use Rattle.sal_history.specs.declared.call.Call.{Call}
-use Rattle.sal_history.specs.declared.call.Call.TheVariants.{Answer, Collect, Invoke, NextCall, Provide, Withdraw}
+use Rattle.sal_history.specs.declared.call.Call.TheVariants.{Invoke}
 use Rattle.sal_history.specs.declared.call.Entry.{Entry}
 use Rattle.sal_history.specs.World.{Domain}
-use Rattle.sal_history.specs.History.{Answered, entries_of, history, reply_to}
-use Rattle.sal_history.specs.Services.{by_router, mount_call, rpc_asked, rpc_calls, rpc_fault, rpc_of, rpc_reply}
+use Rattle.sal_history.specs.History.{Answered, entries_of, history, marks as sets, reply_to}
+use Rattle.sal_history.specs.Services.{by_router, mount_call, note_call, rpc_asked, rpc_calls, rpc_fault, rpc_of, rpc_reply}
 use Rattle.sal_hub.specs.declared.call_id.CallId.{CallId}
 use Rattle.sal_hub.specs.declared.pipeline.Pipeline.{Pipeline}
 use Rattle.sal_hub.specs.Current.{known_of}
 use Rattle.sal_hub.specs.Journals.{Noted, jotted, mark_at, taken_back}
 use Rattle.sal_hub.specs.HubHistory.{HubHistory, entry_of, more}
-use Rattle.sal_hub.specs.Routed.{AreRouted, left_by, collect_reply, request_reply}
+use Rattle.sal_hub.specs.Routed.{AreRouted, left_by, collect_reply, request_reply, shared}
 use Rattle.sal_hub.specs.Services.{IsServed}
 use Rattle.sal_hub.specs.Tokens.{IsCall}
 use Rattle.sal_hub.proofs.Beginning.{made_now}
@@ -37,14 +36,6 @@ use Rattle.sal_hub.proofs.Listed.{slice_get_more, slice_get_seam}
 use Rattle.sal_hub.proofs.Served.{Entered, Failed, is_serving, serving_kept}
 
 -- ---- the calls on the router, as shared calls
-
-abbrev pub shared : RpcCall → Call
-shared (rpcs.Provide rpc context) = Provide rpc context
-shared (rpcs.Withdraw rpc context) = Withdraw rpc context
-shared (rpcs.Invoke rpc context input) = Invoke rpc context input
-shared rpcs.NextCall = NextCall
-shared (rpcs.Answer id rows) = Answer id rows
-shared (rpcs.Collect id) = Collect id
 
 -- the RPC of which the answer speaks
 abbrev pub rpc_asked_for : List Answered → RpcCall → ℕ
@@ -71,14 +62,30 @@ answered_by world answered client rpcs.NextCall = refl
 answered_by world answered client (rpcs.Answer id rows) = refl
 answered_by world answered client (rpcs.Collect id) = refl
 
--- they are none on mounts
-unmounting : (c : RpcCall) → mount_call (shared c) ≡ None
+-- they are none on mounts or notifications, and set no mark
+pub unmounting : (c : RpcCall) → mount_call (shared c) ≡ None
 unmounting (rpcs.Provide rpc context) = refl
 unmounting c = refl
 
-serving : (c : RpcCall) → is_serving (shared c) ≡ true
+pub unnoting : (c : RpcCall) → note_call (shared c) ≡ None
+unnoting (rpcs.Provide rpc context) = refl
+unnoting c = refl
+
+pub unmarking : (c : RpcCall) (m : ℕ) → sets (shared c) m ≡ false
+unmarking (rpcs.Provide rpc context) m = refl
+unmarking c m = refl
+
+pub serving : (c : RpcCall) → is_serving (shared c) ≡ true
 serving (rpcs.Provide rpc context) = refl
 serving c = refl
+
+-- one that takes no memory answers as one that may
+pub always_answers : {X : Type 0} (old new : Routes) (client : ℕ) (c : RpcCall) (good : X → RpcReply) (result : Result X RpcFault) → router.AnswersAlways old new client c good result → router.Answers old new client c good result
+always_answers old new client c good (Ok x) made = made
+always_answers old new client c good (Err (faults.NoProvider rpc)) fails = fails
+always_answers old new client c good (Err (faults.ProviderTaken rpc)) fails = fails
+always_answers old new client c good (Err (faults.NoCall id)) fails = fails
+always_answers old new client c good (Err faults.NoMemory) fails = absurd fails
 
 -- ---- a call of a client
 

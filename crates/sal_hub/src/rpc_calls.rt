@@ -1,13 +1,15 @@
 //! The calls on the router.
 ghost use Rattle.std.specs.Prelude.{◌≡◌, ℕ, ◌<◌, IfOk, OnErr, OnOk, length};
-ghost use Rattle.sal_history.specs.declared.call.Call.TheVariants.{Answer, Collect, Invoke, NextCall, Provide, Withdraw};
+ghost use Rattle.sal_rpc.specs.Answers as routing;
+ghost use Rattle.sal_rpc.specs.declared.call.RpcReply.TheVariants as replies;
+ghost use Rattle.sal_history.specs.declared.call.Call.TheVariants.{Answer, Collect, Invoke, NextCall};
 ghost use Rattle.sal_history.specs.declared.reply.Reply.TheVariants.{Accepted, CallMade};
 ghost use Rattle.sal_history.specs.Services as services;
 ghost use Rattle.sal_hub.specs.declared.call_id.CallId.{CallId as Given};
 ghost use Rattle.sal_hub.specs.Answers.{CallsOver, limit};
 ghost use Rattle.sal_hub.specs.Current.{known_of};
 ghost use Rattle.sal_hub.specs.Journals.{jotted, mark_at, taken_back};
-ghost use Rattle.sal_hub.specs.Routed.{AreRouted, left_by, collect_reply, request_reply};
+ghost use Rattle.sal_hub.specs.Routed.{AreRouted, left_by, collect_reply, registering, request_reply, shared};
 ghost use Rattle.sal_hub.specs.Services.{IsServed};
 ghost use Rattle.sal_hub.specs.Tokens.{IsCall};
 
@@ -20,12 +22,13 @@ use sal_rpc::{Request, Router, RpcFault};
 use sal_types::{Duplicate, NoMemory, Path};
 use std::alloc::Global;
 
-/// A client and the RPC that it provides, or withdraws, in the context, or without one.
+/// A client that begins to provide the RPC in the context, or without one, or ends that.
 #[derive(Drop)]
 pub(crate) struct Registration {
     pub(crate) client: u32,
     pub(crate) rpc: u32,
     pub(crate) context: Option<Path>,
+    pub(crate) begins: bool,
 }
 
 /// A client's request of an RPC, in the context, or without one.
@@ -45,8 +48,8 @@ pub(crate) struct Answering {
     pub(crate) output: Rows,
 }
 
-/// Registers the client for the RPC, unless that is refused, and adds the entry.
-pub(crate) fn provide(
+/// Begins or ends the registration, unless that is refused, and adds the entry.
+pub(crate) fn register(
     pipeline: &Pipeline,
     journal: &mut Journal,
     router: &mut Router,
@@ -55,37 +58,15 @@ pub(crate) fn provide(
     requires service { IsServed AreRouted journal.old pipeline.now router.old }
     requires room { length journal.old.log < limit }
     ensures service { IsServed AreRouted journal.new pipeline.now router.new }
-    ensures answer { CallsOver pipeline.now journal.old journal.new registration.client (Provide registration.rpc registration.context) (λ _. Accepted) result }
+    ensures answer { CallsOver pipeline.now journal.old journal.new registration.client (shared (registering registration.begins registration.rpc registration.context)) (λ _. Accepted) result }
 {
-    match enter_provide(journal, &registration) {
+    match enter_registration(journal, &registration) {
         Ok(()) => {}
         Err(NoMemory) => return Err(CallFault::NoMemory),
     }
-    match router.provide(registration.client, registration.rpc, registration.context) {
+    match register_at(router, registration) {
         Ok(()) => Ok(()),
         Err(fault) => Err(failed(journal, fault)),
-    }
-}
-
-/// Ends the client's registration, unless that is refused, and adds the entry.
-pub(crate) fn withdraw(
-    pipeline: &Pipeline,
-    journal: &mut Journal,
-    router: &mut Router,
-    registration: Registration,
-) -> Result<(), CallFault>
-    requires service { IsServed AreRouted journal.old pipeline.now router.old }
-    requires room { length journal.old.log < limit }
-    ensures service { IsServed AreRouted journal.new pipeline.now router.new }
-    ensures answer { CallsOver pipeline.now journal.old journal.new registration.client (Withdraw registration.rpc registration.context) (λ _. Accepted) result }
-{
-    match enter_withdraw(journal, &registration) {
-        Ok(()) => {}
-        Err(NoMemory) => return Err(CallFault::NoMemory),
-    }
-    match router.withdraw(registration.client, registration.rpc, registration.context) {
-        Ok(()) => Ok(()),
-        Err(fault) => Err(rpc_fault(fault)),
     }
 }
 
@@ -216,29 +197,39 @@ fn copied(context: &Option<Path>) -> Result<Option<Path>, NoMemory>
     }
 }
 
-// Adds the entry of a registration.
-fn enter_provide(journal: &mut Journal, registration: &Registration) -> Result<(), NoMemory>
+// Begins the registration at the router, or ends it.
+fn register_at(router: &mut Router, registration: Registration) -> Result<(), RpcFault>
+    ensures { routing.Answers router.old router.new registration.client (registering registration.begins registration.rpc registration.context) (λ _. replies.Accepted) result }
+{
+    if registration.begins {
+        router.provide(registration.client, registration.rpc, registration.context)
+    } else {
+        router.withdraw(registration.client, registration.rpc, registration.context)
+    }
+}
+
+// The call that begins a registration, or ends it.
+fn registration_call(begins: bool, rpc: u32, context: Option<Path>) -> Call
+    ensures { result ≡ shared (registering begins rpc context) }
+{
+    if begins {
+        Call::Provide { rpc, context }
+    } else {
+        Call::Withdraw { rpc, context }
+    }
+}
+
+// Adds the entry of a registration, or of its end.
+fn enter_registration(journal: &mut Journal, registration: &Registration) -> Result<(), NoMemory>
     requires { length journal.old.log < limit }
-    ensures log { OnOk result (journal.new.log ≡ jotted journal.old.log registration.now.client (Provide registration.now.rpc registration.now.context)) }
+    ensures log { OnOk result (journal.new.log ≡ jotted journal.old.log registration.now.client (shared (registering registration.now.begins registration.now.rpc registration.now.context))) }
     ensures marks { OnOk result ((k : ℕ) → mark_at journal.new.marks k ≡ mark_at journal.old.marks k) }
     ensures undo { OnOk result (taken_back journal.new ≡ journal.old) }
     ensures err { OnErr result (journal.new ≡ journal.old) }
 {
     let context = copied(&registration.context)?;
-    let rpc = registration.rpc;
-    journal.add(registration.client, Call::Provide { rpc, context })
-}
-
-// Adds the entry of the end of a registration.
-fn enter_withdraw(journal: &mut Journal, registration: &Registration) -> Result<(), NoMemory>
-    requires { length journal.old.log < limit }
-    ensures log { OnOk result (journal.new.log ≡ jotted journal.old.log registration.now.client (Withdraw registration.now.rpc registration.now.context)) }
-    ensures marks { OnOk result ((k : ℕ) → mark_at journal.new.marks k ≡ mark_at journal.old.marks k) }
-    ensures err { OnErr result (journal.new ≡ journal.old) }
-{
-    let context = copied(&registration.context)?;
-    let rpc = registration.rpc;
-    journal.add(registration.client, Call::Withdraw { rpc, context })
+    let call = registration_call(registration.begins, registration.rpc, context);
+    journal.add(registration.client, call)
 }
 
 // Adds the entry of a request.

@@ -4,14 +4,13 @@ ghost use Rattle.sal_hub.specs.Routed.{collect_reply};
 ghost use Rattle.sal_client.specs.Answers.{said, IsAnswer};
 
 use crate::calls::{called, refused_call};
-use crate::wish::RunFault;
+use crate::wish::CallResult;
 use sal_history::Reply;
 use sal_note::NoteList;
 use sal_rows::{CallFault, Outcome, Rows};
-use sal_script::StepReply;
 
 /// The reply to a call, unless it stops the client.
-pub(crate) fn answer_to(made: Result<Reply, CallFault>) -> Result<StepReply, RunFault>
+pub(crate) fn answer_to(made: Result<Reply, CallFault>) -> CallResult
     ensures { IsAnswer made result }
 {
     match made {

@@ -14,13 +14,13 @@ use crate::notes::NoteWish;
 use crate::readers::Readers;
 use crate::rpcs::{RpcWish, ask_by, invoke_wish, provide_wish, withdraw_wish};
 use crate::slots::{Slots, look_at};
-use crate::wish::{RunFault, Wish};
+use crate::wish::{CallResult, Wish, Wished};
 use sal_hub::Hub;
-use sal_script::{ScriptStep, StepRefusal, StepReply};
+use sal_script::{ScriptStep, StepRefusal};
 use std::alloc::Global;
 
 // The wish, if the slot has what its call takes.
-fn if_filled<T>(slots: &Slots<T>, slot: u8, wish: Wish) -> Result<Wish, StepFault>
+fn if_filled<T>(slots: &Slots<T>, slot: u8, wish: Wish) -> Wished
     ensures { result ≡ wish_if wish (held slots.now slot) }
 {
     match look_at(slots, slot) {
@@ -36,12 +36,7 @@ impl ClientState {
     ghost use Rattle.sal_script.specs.Tables.{versions_of};
 
     /// The shared call of the step, or why it is refused. It takes no turn at a hub.
-    pub(crate) fn wish_of(
-        &self,
-        alloc: Global,
-        readers: &Readers,
-        step: &ScriptStep,
-    ) -> Result<Wish, StepFault>
+    pub(crate) fn wish_of(&self, alloc: Global, readers: &Readers, step: &ScriptStep) -> Wished
         requires shared { is_local (move_of step.now) ≡ false }
         ensures { Wants readers.now self.now (move_of step.now) result }
     {
@@ -97,12 +92,7 @@ impl ClientState {
     }
 
     // The same for the steps of services.
-    fn service_wish(
-        &self,
-        alloc: Global,
-        readers: &Readers,
-        step: &ScriptStep,
-    ) -> Result<Wish, StepFault>
+    fn service_wish(&self, alloc: Global, readers: &Readers, step: &ScriptStep) -> Wished
         requires service { is_service (move_of step.now) ≡ true }
         ensures { Wants readers.now self.now (move_of step.now) result }
     {
@@ -143,7 +133,7 @@ impl ClientState {
     }
 
     // To submit the slot's transaction, if it may write.
-    fn submit_wish(&self, readers: &Readers, slot: u8) -> Result<Wish, StepFault>
+    fn submit_wish(&self, readers: &Readers, slot: u8) -> Wished
         ensures { Wants readers.now self.now (Submit slot) result }
     {
         match self.standing(slot) {
@@ -154,7 +144,7 @@ impl ClientState {
     }
 
     // To cancel the slot's transaction, if there is one.
-    fn cancel_wish(&self, readers: &Readers, slot: u8) -> Result<Wish, StepFault>
+    fn cancel_wish(&self, readers: &Readers, slot: u8) -> Wished
         ensures { Wants readers.now self.now (Cancel slot) result }
     {
         match self.standing(slot) {
@@ -165,12 +155,7 @@ impl ClientState {
 
     /// Makes the shared call on the hub, and keeps the results in the slots. The reply is not yet among the replies.
     /// If memory runs out, the client must not be used again.
-    pub(crate) fn call(
-        &mut self,
-        alloc: Global,
-        hub: &mut Hub,
-        wish: Wish,
-    ) -> Result<StepReply, RunFault>
+    pub(crate) fn call(&mut self, alloc: Global, hub: &mut Hub, wish: Wish) -> CallResult
         requires sound { IsSound hub.old self.old }
         requires can { CanMake wish self.old }
         requires read { ReadBy (versions_of hub.old.world) wish }

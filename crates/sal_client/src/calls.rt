@@ -9,7 +9,7 @@ ghost use Rattle.sal_client.specs.declared.wish.Wish.TheVariants.{Begin, Submit,
 use crate::answers::{answer_to, settled};
 use crate::client::{ClientState, Standing};
 use crate::slots::{fill_slot, filled, take_slot};
-use crate::wish::RunFault;
+use crate::wish::{CallResult, RunFault};
 use sal_history::Reply;
 use sal_hub::{Hub, laws};
 use sal_rows::{CallFault, Mode};
@@ -25,7 +25,7 @@ pub(crate) fn called(reply: Reply) -> StepReply
 }
 
 /// The reply to a refused call, unless that stops the client.
-pub(crate) fn refused_call(fault: CallFault) -> Result<StepReply, RunFault>
+pub(crate) fn refused_call(fault: CallFault) -> CallResult
     ensures { IsAnswer (Err fault) result }
 {
     match fault {
@@ -62,7 +62,7 @@ impl ClientState {
         slot: u8,
         domain: u32,
         mode: Mode,
-    ) -> Result<StepReply, RunFault>
+    ) -> CallResult
         requires sound { IsSound hub.old self.old }
         ensures { Leaves (Begin slot domain mode) hub.old self.old hub.new self.new result }
     {
@@ -78,12 +78,7 @@ impl ClientState {
     }
 
     /// Submits the slot's transaction, which may write.
-    pub(crate) fn submit(
-        &mut self,
-        alloc: Global,
-        hub: &mut Hub,
-        slot: u8,
-    ) -> Result<StepReply, RunFault>
+    pub(crate) fn submit(&mut self, alloc: Global, hub: &mut Hub, slot: u8) -> CallResult
         requires sound { IsSound hub.old self.old }
         requires writable { standing_of (opened self.old slot) ≡ Standing.Writable }
         ensures { Leaves (Submit slot) hub.old self.old hub.new self.new result }
@@ -107,12 +102,7 @@ impl ClientState {
     }
 
     /// Cancels the slot's transaction.
-    pub(crate) fn cancel(
-        &mut self,
-        alloc: Global,
-        hub: &mut Hub,
-        slot: u8,
-    ) -> Result<StepReply, RunFault>
+    pub(crate) fn cancel(&mut self, alloc: Global, hub: &mut Hub, slot: u8) -> CallResult
         requires sound { IsSound hub.old self.old }
         requires filled { standing_of (opened self.old slot) ≡ Standing.Empty → ⊥ }
         ensures { Leaves (Cancel slot) hub.old self.old hub.new self.new result }
@@ -131,12 +121,7 @@ impl ClientState {
     }
 
     /// Settles the receipt in the slot.
-    pub(crate) fn settle(
-        &self,
-        alloc: Global,
-        hub: &mut Hub,
-        slot: u8,
-    ) -> Result<StepReply, RunFault>
+    pub(crate) fn settle(&self, alloc: Global, hub: &mut Hub, slot: u8) -> CallResult
         requires sound { IsSound hub.old self.now }
         requires filled { IsSome (held self.now.receipts slot) }
         ensures { Leaves (Settle slot) hub.old self.now hub.new self.now result }

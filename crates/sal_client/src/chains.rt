@@ -8,11 +8,10 @@ use crate::answers::{accepted, answer_to};
 use crate::calls::{begun, called, refused_call};
 use crate::client::ClientState;
 use crate::slots::{fill_slot, filled};
-use crate::wish::RunFault;
+use crate::wish::CallResult;
 use sal_history::Reply;
 use sal_hub::{Hub, laws};
 use sal_rows::Mode;
-use sal_script::StepReply;
 use std::alloc::Global;
 
 impl ClientState {
@@ -25,7 +24,7 @@ impl ClientState {
         hub: &mut Hub,
         slot: u8,
         domain: u32,
-    ) -> Result<StepReply, RunFault>
+    ) -> CallResult
         requires sound { IsSound hub.old self.old }
         ensures { Leaves (OpenChain slot domain) hub.old self.old hub.new self.new result }
     {
@@ -48,7 +47,7 @@ impl ClientState {
         from: u8,
         slot: u8,
         mode: Mode,
-    ) -> Result<StepReply, RunFault>
+    ) -> CallResult
         requires sound { IsSound hub.old self.old }
         requires filled { IsSome (held self.old.chains from) }
         ensures { Leaves (ChainBegin from slot mode) hub.old self.old hub.new self.new result }
@@ -66,12 +65,7 @@ impl ClientState {
     }
 
     /// Closes the chain in the chain slot.
-    pub(crate) fn close_chain(
-        &self,
-        alloc: Global,
-        hub: &mut Hub,
-        slot: u8,
-    ) -> Result<StepReply, RunFault>
+    pub(crate) fn close_chain(&self, alloc: Global, hub: &mut Hub, slot: u8) -> CallResult
         requires sound { IsSound hub.old self.now }
         requires filled { IsSome (held self.now.chains slot) }
         ensures { Leaves (CloseChain slot) hub.old self.now hub.new self.now result }

@@ -7,7 +7,7 @@ ghost use Rattle.sal_script.specs.Moves.{move_of};
 ghost use Rattle.sal_script.specs.Play.{new_client};
 ghost use Rattle.sal_script.specs.Tables.{Versions};
 
-use crate::fault::{StepFault, refusal_reply};
+use crate::fault::{LocalResult, StepFault, refusal_reply};
 use crate::follower::Follower;
 use crate::looks::Look;
 use crate::operations::{JsonAct, place_at};
@@ -171,12 +171,7 @@ impl ClientState {
     }
 
     // The same; the reply is not yet among the replies.
-    fn meet_local(
-        &mut self,
-        alloc: Global,
-        readers: &Readers,
-        step: &ScriptStep,
-    ) -> Result<StepReply, NoMemory>
+    fn meet_local(&mut self, alloc: Global, readers: &Readers, step: &ScriptStep) -> LocalResult
         requires schema { HasSchema readers.now self.old }
         requires json { IsTrue (is_json_move (move_of step.now)) }
         requires local { is_local (move_of step.now) ≡ true }

@@ -12,6 +12,9 @@ pub(crate) enum StepFault {
     NoMemory,
 }
 
+/// The reply to a step that makes no shared call.
+pub(crate) type LocalResult = Result<StepReply, NoMemory>;
+
 impl From<NoMemory> for StepFault {
     ghost use Rattle.std.specs.Prelude.{◌≡◌};
     ghost use Rattle.sal_client.specs.declared.fault.StepFault.TheVariants.{NoMemory as Wanting};
@@ -24,7 +27,7 @@ impl From<NoMemory> for StepFault {
 }
 
 /// The reply to a step that is refused.
-pub(crate) fn refusal_reply(fault: StepFault) -> Result<StepReply, NoMemory>
+pub(crate) fn refusal_reply(fault: StepFault) -> LocalResult
     ensures { IsRefusal fault result }
 {
     match fault {

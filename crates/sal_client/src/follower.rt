@@ -2,6 +2,7 @@
 ghost use Rattle.std.specs.Prelude.{◌≡◌, IfOk};
 ghost use Rattle.sal_client.specs.Followers.{Advances};
 
+use crate::fault::LocalResult;
 use sal_hub::ListenerId;
 use sal_listen::{Mirror, MirrorFault};
 use sal_rows::{Batch, Opened};
@@ -52,7 +53,7 @@ impl Follower {
     }
 
     /// The reply with the mirror.
-    pub(crate) fn shown(&self) -> Result<StepReply, NoMemory>
+    pub(crate) fn shown(&self) -> LocalResult
         ensures { IfOk result (λ r. r ≡ StepReply.Mirror self.now.id.domain self.now.path self.now.mirror.version self.now.mirror.rows) }
     {
         let path = self.path.copy()?;

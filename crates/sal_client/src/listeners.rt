@@ -13,16 +13,16 @@ ghost use Rattle.sal_client.specs.declared.wish.Wish.TheVariants.{Listen as List
 use crate::answers::{accepted, answer_to};
 use crate::calls::{called, refused_call};
 use crate::client::{ClientState, refused};
-use crate::fault::StepFault;
+use crate::fault::{LocalResult, StepFault};
 use crate::follower::Follower;
 use crate::messages::path_at;
 use crate::readers::Readers;
 use crate::slots::{Slots, fill_slot, filled, look_at, take_slot};
-use crate::wish::{RunFault, Target, Wish};
+use crate::wish::{CallResult, Target, Wish, Wished};
 use sal_history::Reply;
 use sal_hub::{Hub, ListenerId, laws};
 use sal_rows::{Batch, Opened};
-use sal_script::{StepRefusal, StepReply};
+use sal_script::StepRefusal;
 use sal_types::{Duplicate, NoMemory, Path, Store, Str};
 use std::alloc::Global;
 use std::snapshot::Snapshot;
@@ -97,7 +97,7 @@ pub(crate) fn target_of(
 }
 
 /// To listen there; the listener goes into the slot.
-pub(crate) fn listen_wish(slot: u8, read: Result<Target, StepFault>) -> Result<Wish, StepFault>
+pub(crate) fn listen_wish(slot: u8, read: Result<Target, StepFault>) -> Wished
     ensures { result ≡ wished (λ target. ListenCall slot target) read }
 {
     match read {
@@ -117,7 +117,7 @@ impl ClientState {
         hub: &mut Hub,
         slot: u8,
         target: &Target,
-    ) -> Result<StepReply, RunFault>
+    ) -> CallResult
         requires sound { IsSound hub.old self.old }
         ensures { Leaves (ListenCall slot target.now) hub.old self.old hub.new self.new result }
     {
@@ -139,12 +139,7 @@ impl ClientState {
     }
 
     /// Takes the batch of the listener in the slot, and updates its mirror.
-    pub(crate) fn take(
-        &mut self,
-        alloc: Global,
-        hub: &mut Hub,
-        slot: u8,
-    ) -> Result<StepReply, RunFault>
+    pub(crate) fn take(&mut self, alloc: Global, hub: &mut Hub, slot: u8) -> CallResult
         requires sound { IsSound hub.old self.old }
         requires filled { IsSome (held self.old.listeners slot) }
         ensures { Leaves (TakeCall slot) hub.old self.old hub.new self.new result }
@@ -162,12 +157,7 @@ impl ClientState {
     }
 
     /// Removes the listener in the slot.
-    pub(crate) fn unlisten(
-        &self,
-        alloc: Global,
-        hub: &mut Hub,
-        slot: u8,
-    ) -> Result<StepReply, RunFault>
+    pub(crate) fn unlisten(&self, alloc: Global, hub: &mut Hub, slot: u8) -> CallResult
         requires sound { IsSound hub.old self.now }
         requires filled { IsSome (held self.now.listeners slot) }
         ensures { Leaves (UnlistenCall slot) hub.old self.now hub.new self.now result }
@@ -178,7 +168,7 @@ impl ClientState {
     }
 
     /// Shows the mirror of the listener in the slot.
-    pub(crate) fn mirror(&self, readers: &Readers, slot: u8) -> Result<StepReply, NoMemory>
+    pub(crate) fn mirror(&self, readers: &Readers, slot: u8) -> LocalResult
         ensures { IfOk result (λ r. Answers readers.now self.now (Mirror slot) r self.now) }
     {
         match look_at(&self.listeners, slot) {

@@ -5,7 +5,7 @@ ghost use Rattle.sal_client.specs.Clients.{IsOfSchema};
 ghost use Rattle.sal_client.specs.Looks.{IsLooked, IsSeen, after_look, look_move};
 
 use crate::client::{ClientState, refused};
-use crate::fault::refusal_reply;
+use crate::fault::{LocalResult, refusal_reply};
 use crate::operations::{Place, path_of};
 use crate::readers::Readers;
 use crate::slots::{fill_slot, take_slot};
@@ -54,7 +54,7 @@ fn only_writes(domain: u32) -> StepReply
 }
 
 // The rows that a transaction sees at and below the path. If its reads are checked, the read is recorded.
-fn rows_seen(alloc: Global, tx: &mut Tx, store: Store, path: Path) -> Result<StepReply, NoMemory>
+fn rows_seen(alloc: Global, tx: &mut Tx, store: Store, path: Path) -> LocalResult
     ensures seen { IfOk result (IsSeen tx.old store path Look.Read) }
     ensures after { OnOk result (tx.new ≡ after_look store path tx.old) }
 {
@@ -74,7 +74,7 @@ fn rows_seen(alloc: Global, tx: &mut Tx, store: Store, path: Path) -> Result<Ste
 }
 
 // Whether a transaction sees a row at or below the path.
-fn found_seen(alloc: Global, tx: &mut Tx, store: Store, path: &Path) -> Result<StepReply, NoMemory>
+fn found_seen(alloc: Global, tx: &mut Tx, store: Store, path: &Path) -> LocalResult
     ensures seen { IfOk result (IsSeen tx.old store path.now Look.Exists) }
     ensures after { OnOk result (tx.new ≡ after_look store path.now tx.old) }
 {
@@ -93,13 +93,7 @@ fn found_seen(alloc: Global, tx: &mut Tx, store: Store, path: &Path) -> Result<S
 }
 
 // The reply to a read of the path in a transaction.
-fn seen(
-    alloc: Global,
-    tx: &mut Tx,
-    store: Store,
-    path: Path,
-    look: Look,
-) -> Result<StepReply, NoMemory>
+fn seen(alloc: Global, tx: &mut Tx, store: Store, path: Path, look: Look) -> LocalResult
     ensures seen { IfOk result (IsSeen tx.old store path look) }
     ensures after { OnOk result (tx.new ≡ after_look store path tx.old) }
 {
@@ -110,13 +104,7 @@ fn seen(
 }
 
 // The reply to a read of the text's path in the slot's transaction.
-fn looked(
-    alloc: Global,
-    readers: &Readers,
-    tx: &mut Tx,
-    place: Place,
-    look: Look,
-) -> Result<StepReply, NoMemory>
+fn looked(alloc: Global, readers: &Readers, tx: &mut Tx, place: Place, look: Look) -> LocalResult
     requires { IsOfSchema readers.now tx.old }
     ensures { IfOk result (λ r. IsLooked readers.now place.entry.slot place.entry.store place.entry.text.now look tx.old r tx.new) }
 {
@@ -138,7 +126,7 @@ impl ClientState {
         readers: &Readers,
         place: Place,
         look: Look,
-    ) -> Result<StepReply, NoMemory>
+    ) -> LocalResult
         requires { HasSchema readers.now self.old }
         ensures { IfOk result (λ r. IsAnswered readers.now self.old (look_move place.entry.slot place.entry.store place.entry.text.now look) r self.new) }
     {

@@ -7,11 +7,10 @@ ghost use Rattle.sal_client.specs.declared.wish.Wish.TheVariants.{Pump, Mark, Af
 
 use crate::answers::{accepted, answer_to};
 use crate::client::ClientState;
-use crate::wish::RunFault;
+use crate::wish::CallResult;
 use sal_history::Reply;
 use sal_hub::{Hub, Receipt, Seen, laws};
 use sal_rows::{CallFault, Outcome};
-use sal_script::StepReply;
 use std::alloc::Global;
 
 // The receipt of a pump with its outcome, or that there was none.
@@ -44,7 +43,7 @@ impl ClientState {
     ghost use Rattle.sal_client.specs.Clients.{IsSound};
 
     /// Decides the first pending receipt.
-    pub(crate) fn pump(&self, alloc: Global, hub: &mut Hub) -> Result<StepReply, RunFault>
+    pub(crate) fn pump(&self, alloc: Global, hub: &mut Hub) -> CallResult
         requires sound { IsSound hub.old self.now }
         ensures { Leaves Pump hub.old self.now hub.new self.now result }
     {
@@ -53,12 +52,7 @@ impl ClientState {
     }
 
     /// Sets the mark in the log.
-    pub(crate) fn mark(
-        &self,
-        alloc: Global,
-        hub: &mut Hub,
-        mark: u32,
-    ) -> Result<StepReply, RunFault>
+    pub(crate) fn mark(&self, alloc: Global, hub: &mut Hub, mark: u32) -> CallResult
         requires sound { IsSound hub.old self.now }
         ensures { Leaves (Mark mark) hub.old self.now hub.new self.now result }
     {
@@ -67,12 +61,7 @@ impl ClientState {
     }
 
     /// Asks whether the mark was set.
-    pub(crate) fn after(
-        &self,
-        alloc: Global,
-        hub: &mut Hub,
-        mark: u32,
-    ) -> Result<StepReply, RunFault>
+    pub(crate) fn after(&self, alloc: Global, hub: &mut Hub, mark: u32) -> CallResult
         requires sound { IsSound hub.old self.now }
         ensures { Leaves (After mark) hub.old self.now hub.new self.now result }
     {

@@ -5,12 +5,10 @@ ghost use Rattle.sal_client.specs.declared.wish.Wish.TheVariants.{Mount as Mount
 
 use crate::answers::{accepted, answer_to, mounted};
 use crate::client::ClientState;
-use crate::fault::StepFault;
 use crate::messages::path_at;
 use crate::readers::Readers;
-use crate::wish::{RunFault, Wish};
+use crate::wish::{CallResult, Wish, Wished};
 use sal_hub::{Hub, laws};
-use sal_script::StepReply;
 use sal_types::{Path, Str};
 use std::alloc::Global;
 use std::snapshot::Snapshot;
@@ -46,7 +44,7 @@ impl ClientState {
         readers: &Readers,
         device: u32,
         text: &Str,
-    ) -> Result<Wish, StepFault>
+    ) -> Wished
         ensures { Wants readers.now self.now (Mount device text.now) result }
     {
         let path = path_at(alloc, readers.own(), text)?;
@@ -58,12 +56,7 @@ impl ClientState {
     }
 
     /// To ask which domain is mounted at the path of the text, if it is one.
-    pub(crate) fn mount_at_wish(
-        &self,
-        alloc: Global,
-        readers: &Readers,
-        text: &Str,
-    ) -> Result<Wish, StepFault>
+    pub(crate) fn mount_at_wish(&self, alloc: Global, readers: &Readers, text: &Str) -> Wished
         ensures { Wants readers.now self.now (MountAt text.now) result }
     {
         let path = path_at(alloc, readers.own(), text)?;
@@ -74,12 +67,7 @@ impl ClientState {
     }
 
     /// Makes the call for mounts. It changes no slot.
-    pub(crate) fn call_mount(
-        &self,
-        alloc: Global,
-        hub: &mut Hub,
-        wish: MountWish,
-    ) -> Result<StepReply, RunFault>
+    pub(crate) fn call_mount(&self, alloc: Global, hub: &mut Hub, wish: MountWish) -> CallResult
         requires sound { IsSound hub.old self.now }
         ensures { Leaves (MountCall wish) hub.old self.now hub.new self.now result }
     {

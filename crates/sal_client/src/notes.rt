@@ -6,13 +6,11 @@ ghost use Rattle.sal_client.specs.declared.wish.Wish.TheVariants.{Note as NoteCa
 
 use crate::answers::{accepted, answer_to, notes, offered};
 use crate::client::ClientState;
-use crate::fault::StepFault;
 use crate::messages::{note_of, rows_under};
 use crate::readers::Readers;
-use crate::wish::{RunFault, Wish};
+use crate::wish::{CallResult, Wish, Wished};
 use sal_hub::{Hub, laws};
 use sal_rows::Rows;
-use sal_script::StepReply;
 use sal_types::Str;
 use serde_json::Value;
 use std::alloc::Global;
@@ -42,7 +40,7 @@ impl ClientState {
     ghost use Rattle.sal_client.specs.Wishes.{Wants};
 
     /// To subscribe to the notification of this name, if there is one.
-    pub(crate) fn subscribe_wish(&self, readers: &Readers, name: &Str) -> Result<Wish, StepFault>
+    pub(crate) fn subscribe_wish(&self, readers: &Readers, name: &Str) -> Wished
         ensures { Wants readers.now self.now (Subscribe name.now) result }
     {
         let note = note_of(readers.own().schema(), name)?;
@@ -59,7 +57,7 @@ impl ClientState {
         readers: &Readers,
         name: &Str,
         value: &Value,
-    ) -> Result<Wish, StepFault>
+    ) -> Wished
         ensures { Wants readers.now self.now (Offer name.now (view value.now)) result }
     {
         let reader = readers.own();
@@ -74,12 +72,7 @@ impl ClientState {
     }
 
     /// Makes the call for notifications. It changes no slot.
-    pub(crate) fn call_note(
-        &self,
-        alloc: Global,
-        hub: &mut Hub,
-        wish: NoteWish,
-    ) -> Result<StepReply, RunFault>
+    pub(crate) fn call_note(&self, alloc: Global, hub: &mut Hub, wish: NoteWish) -> CallResult
         requires sound { IsSound hub.old self.now }
         ensures { Leaves (NoteCall wish) hub.old self.now hub.new self.now result }
     {

@@ -13,11 +13,10 @@ use crate::client::ClientState;
 use crate::messages::Service;
 use crate::rpcs::{Answer, Ask, Invocation, RpcWish};
 use crate::slots::{Slots, fill_slot, filled};
-use crate::wish::RunFault;
+use crate::wish::CallResult;
 use sal_history::Reply;
 use sal_hub::{Hub, laws};
 use sal_rpc::Request;
-use sal_script::StepReply;
 use sal_types::NoMemory;
 use std::alloc::Global;
 
@@ -54,13 +53,7 @@ impl ClientState {
     ghost use Rattle.sal_client.specs.Wishes.{CanMake};
 
     // Makes a request; its id goes into the slot.
-    fn invoke(
-        &mut self,
-        alloc: Global,
-        hub: &mut Hub,
-        slot: u8,
-        ask: Ask,
-    ) -> Result<StepReply, RunFault>
+    fn invoke(&mut self, alloc: Global, hub: &mut Hub, slot: u8, ask: Ask) -> CallResult
         requires sound { IsSound hub.old self.old }
         ensures { Leaves (RpcCall (Invoke slot ask)) hub.old self.old hub.new self.new result }
     {
@@ -78,7 +71,7 @@ impl ClientState {
     }
 
     // Takes the next request that waits for the client into the slot.
-    fn next_call(&mut self, alloc: Global, hub: &mut Hub, slot: u8) -> Result<StepReply, RunFault>
+    fn next_call(&mut self, alloc: Global, hub: &mut Hub, slot: u8) -> CallResult
         requires sound { IsSound hub.old self.old }
         ensures { Leaves (RpcCall (NextCall slot)) hub.old self.old hub.new self.new result }
     {
@@ -93,7 +86,7 @@ impl ClientState {
     }
 
     // Asks for the answer to the request in the slot.
-    fn collect(&self, alloc: Global, hub: &mut Hub, slot: u8) -> Result<StepReply, RunFault>
+    fn collect(&self, alloc: Global, hub: &mut Hub, slot: u8) -> CallResult
         requires sound { IsSound hub.old self.now }
         requires filled { IsSome (held self.now.invoked slot) }
         ensures { Leaves (RpcCall (Collect slot)) hub.old self.now hub.new self.now result }
@@ -104,12 +97,7 @@ impl ClientState {
     }
 
     /// Makes the call for RPCs, and keeps its results in the slots.
-    pub(crate) fn call_rpc(
-        &mut self,
-        alloc: Global,
-        hub: &mut Hub,
-        wish: RpcWish,
-    ) -> Result<StepReply, RunFault>
+    pub(crate) fn call_rpc(&mut self, alloc: Global, hub: &mut Hub, wish: RpcWish) -> CallResult
         requires sound { IsSound hub.old self.old }
         requires can { CanMake (RpcCall wish) self.old }
         ensures { Leaves (RpcCall wish) hub.old self.old hub.new self.new result }

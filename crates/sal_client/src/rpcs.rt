@@ -13,7 +13,7 @@ use crate::messages::{Service, input_of, output_of, rows_under, service_of};
 use crate::reader::Reader;
 use crate::readers::Readers;
 use crate::slots::look_at;
-use crate::wish::Wish;
+use crate::wish::{Wish, Wished};
 use sal_rows::Rows;
 use sal_script::StepRefusal;
 use sal_types::Str;
@@ -107,7 +107,7 @@ fn answer_of(
 }
 
 /// To provide the service that was read.
-pub(crate) fn provide_wish(read: Result<Service, StepFault>) -> Result<Wish, StepFault>
+pub(crate) fn provide_wish(read: Result<Service, StepFault>) -> Wished
     ensures { result ≡ wished (λ service. Rpc (Provide service)) read }
 {
     match read {
@@ -117,7 +117,7 @@ pub(crate) fn provide_wish(read: Result<Service, StepFault>) -> Result<Wish, Ste
 }
 
 /// To withdraw it.
-pub(crate) fn withdraw_wish(read: Result<Service, StepFault>) -> Result<Wish, StepFault>
+pub(crate) fn withdraw_wish(read: Result<Service, StepFault>) -> Wished
     ensures { result ≡ wished (λ service. Rpc (Withdraw service)) read }
 {
     match read {
@@ -127,7 +127,7 @@ pub(crate) fn withdraw_wish(read: Result<Service, StepFault>) -> Result<Wish, St
 }
 
 /// To make the request that was read; its id goes into the slot.
-pub(crate) fn invoke_wish(slot: u8, read: Result<Ask, StepFault>) -> Result<Wish, StepFault>
+pub(crate) fn invoke_wish(slot: u8, read: Result<Ask, StepFault>) -> Wished
     ensures { result ≡ wished (λ ask. Rpc (Invoke slot ask)) read }
 {
     match read {
@@ -146,7 +146,7 @@ impl ClientState {
         readers: &Readers,
         slot: u8,
         value: &Value,
-    ) -> Result<Wish, StepFault>
+    ) -> Wished
         ensures { Wants readers.now self.now (Answers slot (view value.now)) result }
     {
         let Some(request) = look_at(&self.handed, slot) else {

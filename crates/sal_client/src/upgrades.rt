@@ -9,9 +9,9 @@ use crate::answers::{accepted, answer_to};
 use crate::client::ClientState;
 use crate::fault::StepFault;
 use crate::readers::Readers;
-use crate::wish::{RunFault, Wish};
+use crate::wish::{CallResult, Wish, Wished};
 use sal_hub::{Hub, laws};
-use sal_script::{StepRefusal, StepReply};
+use sal_script::StepRefusal;
 use std::alloc::Global;
 
 impl ClientState {
@@ -19,7 +19,7 @@ impl ClientState {
     ghost use Rattle.sal_client.specs.Wishes.{Wants};
 
     /// To upgrade to the version, if the script has it.
-    pub(crate) fn upgrade_wish(&self, readers: &Readers, version: u32) -> Result<Wish, StepFault>
+    pub(crate) fn upgrade_wish(&self, readers: &Readers, version: u32) -> Wished
         ensures { Wants readers.now self.now (asked.Upgrade version) result }
     {
         if readers.has_upgrade(version) {
@@ -30,12 +30,7 @@ impl ClientState {
     }
 
     /// Upgrades the schema of the controller's own domain to the version.
-    pub(crate) fn upgrade(
-        &self,
-        alloc: Global,
-        hub: &mut Hub,
-        version: u32,
-    ) -> Result<StepReply, RunFault>
+    pub(crate) fn upgrade(&self, alloc: Global, hub: &mut Hub, version: u32) -> CallResult
         requires sound { IsSound hub.old self.now }
         requires read { has_upgrade (versions_of hub.old.world) version ≡ true }
         ensures { Leaves (Upgrade version) hub.old self.now hub.new self.now result }

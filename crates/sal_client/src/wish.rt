@@ -1,8 +1,10 @@
 //! The shared calls of steps.
+use crate::fault::StepFault;
 use crate::mounts::MountWish;
 use crate::notes::NoteWish;
 use crate::rpcs::RpcWish;
 use sal_rows::Mode;
+use sal_script::StepReply;
 use sal_types::{NoMemory, Path, Store, Str};
 use std::alloc::AllocFailed;
 use std::snapshot::Snapshot;
@@ -67,6 +69,12 @@ pub enum RunFault {
     #[error("out of memory")]
     NoMemory,
 }
+
+/// The shared call of a step, or why the step is refused.
+pub(crate) type Wished = Result<Wish, StepFault>;
+
+/// The reply to a shared call, or why the client stops at it.
+pub(crate) type CallResult = Result<StepReply, RunFault>;
 
 impl From<NoMemory> for RunFault {
     ghost use Rattle.std.specs.Prelude.{◌≡◌};

@@ -7,7 +7,7 @@ ghost use Rattle.sal_rules.specs.Writes.{IsForSchema};
 ghost use Rattle.sal_client.specs.Operations.{data_act_of, write_move};
 
 use crate::client::{ClientState, Standing, refused};
-use crate::fault::refusal_reply;
+use crate::fault::{LocalResult, refusal_reply};
 use crate::looks::{domain_of, version_of};
 use crate::operations::{JsonAct, Place, op_of};
 use crate::readers::Readers;
@@ -19,7 +19,7 @@ use sal_types::NoMemory;
 use std::alloc::Global;
 
 // The reply to a write with this result.
-fn reply_to(domain: u32, answer: Result<(), TxFault>) -> Result<StepReply, NoMemory>
+fn reply_to(domain: u32, answer: Result<(), TxFault>) -> LocalResult
     ensures reply { IfOk result (λ r. MatchResult answer (λ _. r ≡ StepReply.Accepted) (λ fault. r ≡ StepReply.Refused (StepRefusal.Write domain fault))) }
     ensures memory { IfOk result (λ _. MatchResult answer (λ _. ⊤) (λ fault. fault ≡ TxFault.NoMemory → ⊥)) }
 {
@@ -61,7 +61,7 @@ impl ClientState {
         readers: &Readers,
         place: Place,
         act: JsonAct,
-    ) -> Result<StepReply, NoMemory>
+    ) -> LocalResult
         requires schema { HasSchema readers.now self.old }
         requires json { IsTrue (is_json_act (data_act_of act)) }
         ensures { IfOk result (λ r. IsAnswered readers.now self.old (write_move place.entry.slot place.entry.store place.entry.text.now (data_act_of act.entry)) r self.new) }
@@ -86,13 +86,7 @@ impl ClientState {
     }
 
     // Adds the operation to the slot's transaction, which may write, unless it is refused.
-    fn write_op(
-        &mut self,
-        alloc: Global,
-        readers: &Readers,
-        slot: u8,
-        op: Op,
-    ) -> Result<StepReply, NoMemory>
+    fn write_op(&mut self, alloc: Global, readers: &Readers, slot: u8, op: Op) -> LocalResult
         requires schema { HasSchema readers.now self.old }
         requires for_schema { (tx : Open) → opened self.old slot ≡ Some tx → IsForSchema (table_at readers.now tx.version tx.domain) op }
         requires writable { standing_of (opened self.old slot) ≡ Standing.Writable }

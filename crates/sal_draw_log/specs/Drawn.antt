@@ -1,5 +1,5 @@
 -- The picture of a log: a row for each entry, in the lane of the client that made it.
-use Rattle.std.specs.Prelude.{ℕ, ◌+◌, not, Bool, true, false, List, [], ◌∷◌, ◌++◌, map, Option, Some, None, codes, decimal, if◌then◌else◌, nat_eq}
+use Rattle.std.specs.Prelude.{◌≡◌, ℕ, ◌+◌, not, Bool, true, false, List, [], ◌∷◌, ◌++◌, length, map, Option, Some, None, Result, IfOk, codes, decimal, if◌then◌else◌, nat_eq}
 use Rattle.std.specs.List.{filter_map, fold, position_or_len}
 use Rattle.sal_rows.specs.declared.outcome.Outcome.{Outcome}
 use Rattle.sal_rows.specs.declared.outcome.Outcome.TheVariants.{Done}
@@ -131,6 +131,10 @@ abbrev pub log_text : List Domain → List Entry → List ℕ
 log_text world log = svg_of (picture_of (scene_of world log))
 
 -- ---- for the code
+
+-- what is made of the log over each world of this many domains, if the outcomes are those of the log over it
+abbrev pub IsMadeOver : {A F : Type 0} → (List Domain → List Entry → A) → ℕ → List Entry → List Outcome → Result A F → Type 0
+IsMadeOver make domains log os result = (world : List Domain) → length world ≡ domains → os ≡ outcomes (history world log) → IfOk result (λ made. made ≡ make world log)
 
 abbrev pub weave_of : CodeWeave → Weave
 weave_of w = record { track = track_of w.track; place = w.place; rows = w.rows.items }

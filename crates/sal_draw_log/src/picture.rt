@@ -1,7 +1,4 @@
 //! The picture of a log.
-ghost use Rattle.std.specs.Prelude.{◌≡◌, IfOk, List, length};
-ghost use Rattle.sal_history.specs.World.{Domain as World};
-ghost use Rattle.sal_history.specs.History.{history, outcomes as outcomes_of};
 ghost use Rattle.sal_draw_log.specs.Drawn as spec;
 
 use crate::scenes::{made_on, scene_of};
@@ -22,7 +19,7 @@ pub fn draw_log(
     log: &[Entry],
     outcomes: &[Outcome],
 ) -> Result<Bytes, NoMemory>
-    ensures { (world : List World) → length world ≡ «domains» → outcomes.now ≡ outcomes_of (history world log.now) → IfOk result (λ text. text ≡ spec.log_text world log.now) }
+    ensures { spec.IsMadeOver spec.log_text «domains» log.now outcomes.now result }
 {
     let scene = log_scene(alloc, domains, log, outcomes)?;
     scene_text(alloc, scene)
@@ -35,7 +32,7 @@ fn log_scene(
     log: &[Entry],
     outcomes: &[Outcome],
 ) -> Result<Scene, NoMemory>
-    ensures { (world : List World) → length world ≡ «domains» → outcomes.now ≡ outcomes_of (history world log.now) → IfOk result (λ scene. scene ≡ spec.scene_of world log.now) }
+    ensures { spec.IsMadeOver spec.scene_of «domains» log.now outcomes.now result }
 {
     let retold = retell(alloc, domains, log, outcomes)?;
     let made = made_on(alloc, &retold.sent, outcomes)?;

@@ -31,3 +31,7 @@ pub record IsTaken (feed : Named) (notes : ℕ) (half : Taken) : Type 0 where
   pub sum : sum_of half.seat.taken ≡ half.sum
   pub bound : half.sum ≤ half.count * 4294967295
   pub within : half.count ≤ notes
+
+-- both halves, between rounds
+abbrev pub AreHalves : Named → ℕ → Offered × Taken → Type 0
+AreHalves feed notes halves = IsOffered feed notes halves.0 × IsTaken feed notes halves.1

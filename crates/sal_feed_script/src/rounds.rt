@@ -1,7 +1,7 @@
 //! Rounds in which one half offers notifications, and the other takes them.
 ghost use Rattle.std.specs.Prelude.{◌≡◌, ◌≤◌, IfOk};
 ghost use Rattle.sal_feed_script.specs.Feeding.{sum_below};
-ghost use Rattle.sal_feed_script.specs.Halves.{IsOffered, IsTaken};
+ghost use Rattle.sal_feed_script.specs.Halves.{AreHalves, IsOffered, IsTaken};
 
 use sal_feed::{Feed, OfferSeat, TakeSeat};
 use sal_note::Note;
@@ -64,10 +64,8 @@ fn all_rounds<R: Threads + Wait + Sync>(
     halves: (Offered, Taken),
 ) -> (Offered, Taken)
     requires notes { notes ≤ 100000 }
-    requires offered { IsOffered feed.now notes halves.0 }
-    requires taken { IsTaken feed.now notes halves.1 }
-    ensures offered { IsOffered feed.now notes result.0 }
-    ensures taken { IsTaken feed.now notes result.1 }
+    requires halves { AreHalves feed.now notes halves }
+    ensures halves { AreHalves feed.now notes result }
     ensures all { result.1.count ≡ notes }
 {
     let (mut offered, mut taken) = halves;
@@ -89,10 +87,8 @@ fn one_round<R: Threads + Wait + Sync>(
     halves: (Offered, Taken),
 ) -> (Offered, Taken)
     requires notes { notes ≤ 100000 }
-    requires offered { IsOffered feed.now notes halves.0 }
-    requires taken { IsTaken feed.now notes halves.1 }
-    ensures offered { IsOffered feed.now notes result.0 }
-    ensures taken { IsTaken feed.now notes result.1 }
+    requires halves { AreHalves feed.now notes halves }
+    ensures { AreHalves feed.now notes result }
 {
     let (offered, taken) = halves;
     thread::join(

@@ -2,6 +2,7 @@
 use Rattle.std.proofs.Common.{◌≡◌, ℕ, suc, ◌<◌, ◌≤◌, true, List, [], ◌∷◌, ◌++◌, length, Option, None, Some, arith, refl, ap, sym, ◌∙◌, subst}
 use Rattle.std.specs.List.{cons_option}
 use Rattle.std.specs.Option.{option_to_list}
+use Rattle.sal_rows.specs.declared.outcome.CallFault.{CallFault}
 use Rattle.sal_note.specs.declared.call.NoteCall.{NoteCall}
 use Rattle.sal_note.specs.declared.call.NoteCall.TheVariants as notes
 use Rattle.sal_note.specs.declared.call.NoteFault.{NoteFault}
@@ -13,20 +14,20 @@ use Rattle.sal_note.specs.Boxes.{Boxes, HasRoom, IsOf, clients_in}
 use Rattle.sal_note.specs.Queues.{Asked}
 use Rattle.sal_history.specs.declared.call.Call.{Call}
 use Rattle.sal_history.specs.declared.call.Call.TheVariants.{Offer, Subscribe, TakeNotes}
-use Rattle.sal_history.specs.declared.call.Entry.{Entry}
 use Rattle.sal_history.specs.World.{Domain}
 use Rattle.sal_history.specs.History.{Answered, entries_of, history, reply_to}
 use Rattle.sal_history.specs.Services.{by_notes, mount_call, note_asked, note_calls, note_fault, note_reply}
 use Rattle.sal_hub.specs.declared.pipeline.Pipeline.{Pipeline}
 use Rattle.sal_note.proofs.Counted.{subscribers-are-callers}
-use Rattle.sal_hub.specs.Answers.{Fails, Made, limit}
-use Rattle.sal_hub.specs.Current.{IsKept, known_of}
+use Rattle.sal_hub.specs.Answers.{limit}
+use Rattle.sal_hub.specs.Current.{known_of}
 use Rattle.sal_hub.specs.Journals.{Noted, jotted, mark_at, taken_back}
 use Rattle.sal_hub.specs.HubHistory.{HubHistory, entry_of}
 use Rattle.sal_hub.specs.Notified.{AreNoted, left_by}
+use Rattle.sal_hub.specs.Services.{IsServed}
 use Rattle.sal_hub.proofs.Beginning.{made_now}
 use Rattle.sal_hub.proofs.Histories.{length-history, note-push}
-use Rattle.sal_hub.proofs.Served.{is_serving, serving_kept}
+use Rattle.sal_hub.proofs.Served.{Entered, Failed, is_serving, serving_kept}
 
 -- ---- the calls on notifications, as shared calls
 
@@ -78,13 +79,7 @@ has_room j p b noted room note =
 
 -- ---- a call of a client
 
--- the state after a call that fails
-pub record Failed (known : HubHistory) (j : Noted) (p : Pipeline) (b : Boxes) (e : Entry) (fault : NoteFault) : Type 0 where
-  pub kept : IsKept j p
-  pub noted : AreNoted (known_of j p) b
-  pub answer : Fails known (known_of j p) e (note_fault fault)
-
-module _ (j j' : Noted) (p : Pipeline) (kept : IsKept j p) (client : ℕ) (c : NoteCall) (log : j'.log ≡ jotted j.log client (shared c)) (marks : (k : ℕ) → mark_at j'.marks k ≡ mark_at j.marks k) where
+module _ {j : Noted} {p : Pipeline} {b : Boxes} (was : IsServed AreNoted j p b) (j' : Noted) (b' : Boxes) (client : ℕ) (c : NoteCall) (log : j'.log ≡ jotted j.log client (shared c)) (marks : (k : ℕ) → mark_at j'.marks k ≡ mark_at j.marks k) where
   abbrev old : HubHistory
   old = known_of j p
 
@@ -94,38 +89,32 @@ module _ (j j' : Noted) (p : Pipeline) (kept : IsKept j p) (client : ℕ) (c : N
   abbrev calls : List Asked
   calls = note_calls (history (known_of j p).world j.log)
 
-  pub entered_kept : IsKept j' p
-  entered_kept = serving_kept j j' p kept client (shared c) (serving c) (unmounting c) log marks
-
   longer : note_calls (history (known_of j p).world j'.log) ≡ note_calls (history (known_of j p).world j.log) ++ record { client = client; call = c } ∷ []
   longer =
       (λ i. note_calls (history old.world (log i)))
       ∙ note-push old.world j.log (record { client = client; number = entries_of j.log client; call = shared c })
       ∙ ap (λ (o : Option Asked). calls ++ option_to_list o) (asked_once client c)
 
-  module _ (b b' : Boxes) (noted : AreNoted (known_of j p) b) where
-    module _ (reply : NoteReply) (made : queued.Makes b b' client c reply) where
-      pub entered_noted : AreNoted (known_of j' p) b'
-      entered_noted = subst (λ (l : List Asked). IsOf l b') (sym longer) (made.longer calls noted)
+  -- a call that was made
+  pub entered_call : (reply : NoteReply) → length j.log < 1000000 → queued.Makes b b' client c reply → Entered AreNoted (known_of j p) j' p b' (entry_of (known_of j p) client (shared c)) (note_reply reply)
+  entered_call reply room made = record {
+    service = record {
+      kept = serving_kept j j' p was.kept client (shared c) (serving c) (unmounting c) log marks;
+      served = subst (λ (l : List Asked). IsOf l b') (sym longer) (made.longer calls was.served);
+    };
+    answer = made_now j j' p was.kept client (shared c) log (note_reply reply) room (answered_by old.world answered client c ∙ ap note_reply (made.answer calls was.served));
+  }
 
-      pub entered_answer : length j.log < 1000000 → Made (known_of j p) (known_of j' p) (entry_of (known_of j p) client (shared c)) (note_reply reply)
-      entered_answer room =
-          made_now j j' p kept client (shared c) log (note_reply reply) room
-          (answered_by old.world answered client c ∙ ap note_reply (made.answer calls noted))
+  module _ (undo : taken_back j' ≡ j) where
+    failed_by : (fault : NoteFault) → length j.log < 1000000 → queued.Fails b b' client c fault → Failed AreNoted (known_of j p) (left_by fault j') p b' (entry_of (known_of j p) client (shared c)) (note_fault fault)
+    failed_by (faults.NoteRejected subscriber) room is = let it = entered_call (replies.Refused (faults.NoteRejected subscriber)) room is.made in record { service = it.service; answer = it.answer }
+    failed_by faults.NoMemory room same = subst (λ (x : Noted). Failed AreNoted (known_of j p) x p b' (entry_of (known_of j p) client (shared c)) (note_fault faults.NoMemory)) (sym undo) (record {
+      service = subst (IsServed AreNoted j p) (sym same) was;
+      answer = refl;
+    })
 
-    module _ (undo : taken_back j' ≡ j) where
-      failed_at : (fault : NoteFault) → length j.log < 1000000 → queued.Fails b b' client c fault → Failed (known_of j p) (left_by fault j') p b' (entry_of (known_of j p) client (shared c)) fault
-      failed_at (faults.NoteRejected subscriber) room is = record {
-        kept = entered_kept;
-        noted = entered_noted (replies.Refused (faults.NoteRejected subscriber)) is.made;
-        answer = entered_answer (replies.Refused (faults.NoteRejected subscriber)) is.made room;
-      }
-      failed_at faults.NoMemory room same = subst (λ (x : Noted). Failed (known_of j p) x p b' (entry_of (known_of j p) client (shared c)) faults.NoMemory) (sym undo) (record {
-        kept = kept;
-        noted = subst (λ (x : Boxes). AreNoted (known_of j p) x) (sym same) noted;
-        answer = refl;
-      })
-
-      -- a fault of a call
-      pub failed_call : (fault : NoteFault) (j'' : Noted) → j'' ≡ left_by fault j' → length j.log < 1000000 → queued.Fails b b' client c fault → Failed (known_of j p) j'' p b' (entry_of (known_of j p) client (shared c)) fault
-      failed_call fault j'' left room fails = subst (λ (x : Noted). Failed (known_of j p) x p b' (entry_of (known_of j p) client (shared c)) fault) (sym left) (failed_at fault room fails)
+    -- the fault of a call
+    pub failed_call : (fault : NoteFault) (f : CallFault) → f ≡ note_fault fault → (j'' : Noted) → j'' ≡ left_by fault j' → length j.log < 1000000 → queued.Fails b b' client c fault → Failed AreNoted (known_of j p) j'' p b' (entry_of (known_of j p) client (shared c)) f
+    failed_call fault f of_notes j'' left room fails =
+        subst (λ (x : Noted). Failed AreNoted (known_of j p) x p b' (entry_of (known_of j p) client (shared c)) f) (sym left)
+        (subst (Failed AreNoted (known_of j p) (left_by fault j') p b' (entry_of (known_of j p) client (shared c))) (sym of_notes) (failed_by fault room fails))

@@ -1,11 +1,12 @@
 -- The calls on the router among those of the log: the state after a call, and its answer.
-use Rattle.std.proofs.Common.{◌≡◌, ℕ, zero, suc, ◌+◌, ◌<◌, true, List, [], ◌∷◌, ◌++◌, length, Option, None, Some, refl, ap, sym, ◌∙◌, subst, arith, append-nil, if◌then◌else◌}
+use Rattle.std.proofs.Common.{◌≡◌, ℕ, zero, suc, ◌+◌, ◌<◌, true, false, List, [], ◌∷◌, ◌++◌, length, Option, None, Some, Result, Ok, Err, refl, ap, sym, ◌∙◌, subst, arith, append-nil, if◌then◌else◌}
 use Rattle.std.specs.Prelude.{is_some, unwrap_or}
 use Rattle.std.specs.Option.{option_map, option_to_list}
 use Rattle.std.proofs.lemmas.List.Elements.{filter_map-append}
 use Rattle.std.proofs.lemmas.List.Sums.{fold-append}
 use Rattle.sal_types.specs.declared.value.Step.{Step}
 use Rattle.sal_types.specs.declared.row.Row.{Row}
+use Rattle.sal_rows.specs.declared.outcome.CallFault.{CallFault}
 use Rattle.sal_rpc.specs.declared.call.Request.{Request}
 use Rattle.sal_rpc.specs.declared.call.RpcCall.{RpcCall}
 use Rattle.sal_rpc.specs.declared.call.RpcCall.TheVariants as rpcs
@@ -16,34 +17,25 @@ use Rattle.sal_rpc.specs.declared.call.RpcReply.TheVariants as replies
 use Rattle.sal_rpc.specs.Answers as router
 use Rattle.sal_rpc.specs.Routes.{IsOf, Routes, next_reply}
 use Rattle.sal_rpc.specs.Routing.{Asked, Made as Routed, Requested, made_of, make, output, owner_of, reply_to as routed_to, request_at, requested, requests, sent_to}
-use Rattle.sal_history.specs.declared.call.Call.{Call}
-use Rattle.sal_history.specs.declared.call.Call.TheVariants.{Answer, Collect, Invoke, NextCall, Provide, Withdraw}
+use Rattle.sal_history.specs.declared.call.Call.TheVariants.{Invoke}
 use Rattle.sal_history.specs.declared.call.Entry.{Entry}
 use Rattle.sal_history.specs.World.{Domain}
-use Rattle.sal_history.specs.History.{Answered, entries_of, history, reply_to}
-use Rattle.sal_history.specs.Services.{by_router, mount_call, rpc_asked, rpc_calls, rpc_fault, rpc_of, rpc_reply}
+use Rattle.sal_history.specs.History.{Answered, entries_of, history, marks as sets, reply_to}
+use Rattle.sal_history.specs.Services.{by_router, mount_call, note_call, rpc_asked, rpc_calls, rpc_fault, rpc_of, rpc_reply}
 use Rattle.sal_hub.specs.declared.call_id.CallId.{CallId}
 use Rattle.sal_hub.specs.declared.pipeline.Pipeline.{Pipeline}
-use Rattle.sal_hub.specs.Answers.{Fails, Made}
-use Rattle.sal_hub.specs.Current.{IsKept, known_of}
+use Rattle.sal_hub.specs.Current.{known_of}
 use Rattle.sal_hub.specs.Journals.{Noted, jotted, mark_at, taken_back}
 use Rattle.sal_hub.specs.HubHistory.{HubHistory, entry_of, more}
-use Rattle.sal_hub.specs.Routed.{AreRouted, left_by, collect_reply, request_reply}
+use Rattle.sal_hub.specs.Routed.{AreRouted, left_by, collect_reply, request_reply, shared}
+use Rattle.sal_hub.specs.Services.{IsServed}
 use Rattle.sal_hub.specs.Tokens.{IsCall}
 use Rattle.sal_hub.proofs.Beginning.{made_now}
 use Rattle.sal_hub.proofs.Histories.{listed, rpc-push}
 use Rattle.sal_hub.proofs.Listed.{slice_get_more, slice_get_seam}
-use Rattle.sal_hub.proofs.Served.{is_serving, serving_kept}
+use Rattle.sal_hub.proofs.Served.{Entered, Failed, is_serving, serving_kept}
 
 -- ---- the calls on the router, as shared calls
-
-abbrev pub shared : RpcCall → Call
-shared (rpcs.Provide rpc context) = Provide rpc context
-shared (rpcs.Withdraw rpc context) = Withdraw rpc context
-shared (rpcs.Invoke rpc context input) = Invoke rpc context input
-shared rpcs.NextCall = NextCall
-shared (rpcs.Answer id rows) = Answer id rows
-shared (rpcs.Collect id) = Collect id
 
 -- the RPC of which the answer speaks
 abbrev pub rpc_asked_for : List Answered → RpcCall → ℕ
@@ -70,24 +62,34 @@ answered_by world answered client rpcs.NextCall = refl
 answered_by world answered client (rpcs.Answer id rows) = refl
 answered_by world answered client (rpcs.Collect id) = refl
 
--- they are none on mounts
-unmounting : (c : RpcCall) → mount_call (shared c) ≡ None
+-- they are none on mounts or notifications, and set no mark
+pub unmounting : (c : RpcCall) → mount_call (shared c) ≡ None
 unmounting (rpcs.Provide rpc context) = refl
 unmounting c = refl
 
-serving : (c : RpcCall) → is_serving (shared c) ≡ true
+pub unnoting : (c : RpcCall) → note_call (shared c) ≡ None
+unnoting (rpcs.Provide rpc context) = refl
+unnoting c = refl
+
+pub unmarking : (c : RpcCall) (m : ℕ) → sets (shared c) m ≡ false
+unmarking (rpcs.Provide rpc context) m = refl
+unmarking c m = refl
+
+pub serving : (c : RpcCall) → is_serving (shared c) ≡ true
 serving (rpcs.Provide rpc context) = refl
 serving c = refl
 
+-- one that takes no memory answers as one that may
+pub always_answers : {X : Type 0} (old new : Routes) (client : ℕ) (c : RpcCall) (good : X → RpcReply) (result : Result X RpcFault) → router.AnswersAlways old new client c good result → router.Answers old new client c good result
+always_answers old new client c good (Ok x) made = made
+always_answers old new client c good (Err (faults.NoProvider rpc)) fails = fails
+always_answers old new client c good (Err (faults.ProviderTaken rpc)) fails = fails
+always_answers old new client c good (Err (faults.NoCall id)) fails = fails
+always_answers old new client c good (Err faults.NoMemory) fails = absurd fails
+
 -- ---- a call of a client
 
--- the state after a call that fails
-pub record Failed (known : HubHistory) (j : Noted) (p : Pipeline) (r : Routes) (e : Entry) (fault : RpcFault) : Type 0 where
-  pub kept : IsKept j p
-  pub routed : AreRouted (known_of j p) r
-  pub answer : Fails known (known_of j p) e (rpc_fault fault)
-
-module _ (j j' : Noted) (p : Pipeline) (kept : IsKept j p) (client : ℕ) (c : RpcCall) (log : j'.log ≡ jotted j.log client (shared c)) (marks : (k : ℕ) → mark_at j'.marks k ≡ mark_at j.marks k) where
+module _ {j : Noted} {p : Pipeline} {r : Routes} (was : IsServed AreRouted j p r) (j' : Noted) (r' : Routes) (client : ℕ) (c : RpcCall) (log : j'.log ≡ jotted j.log client (shared c)) (marks : (k : ℕ) → mark_at j'.marks k ≡ mark_at j.marks k) where
   abbrev old : HubHistory
   old = known_of j p
 
@@ -97,49 +99,49 @@ module _ (j j' : Noted) (p : Pipeline) (kept : IsKept j p) (client : ℕ) (c : R
   abbrev calls : List Asked
   calls = rpc_calls (history (known_of j p).world j.log)
 
-  pub entered_kept : IsKept j' p
-  entered_kept = serving_kept j j' p kept client (shared c) (serving c) (unmounting c) log marks
-
   longer : rpc_calls (history (known_of j p).world j'.log) ≡ rpc_calls (history (known_of j p).world j.log) ++ record { client = client; call = c } ∷ []
   longer =
       (λ i. rpc_calls (history old.world (log i)))
       ∙ rpc-push old.world j.log (record { client = client; number = entries_of j.log client; call = shared c })
       ∙ ap (λ (o : Option Asked). calls ++ option_to_list o) (asked_once client c)
 
-  module _ (r r' : Routes) (routed : AreRouted (known_of j p) r) where
-    module _ (reply : RpcReply) (made : router.Makes r r' client c reply) where
-      pub entered_routed : AreRouted (known_of j' p) r'
-      entered_routed = subst (λ (l : List Asked). IsOf l r') (sym longer) (made.longer calls routed)
+  -- a call that was made
+  pub entered_call : (reply : RpcReply) → length j.log < 1000000 → router.Makes r r' client c reply
+      → Entered AreRouted (known_of j p) j' p r' (entry_of (known_of j p) client (shared c)) (rpc_reply (rpc_asked_for (history (known_of j p).world j.log) c) reply)
+  entered_call reply room made = record {
+    service = record {
+      kept = serving_kept j j' p was.kept client (shared c) (serving c) (unmounting c) log marks;
+      served = subst (λ (l : List Asked). IsOf l r') (sym longer) (made.longer calls was.served);
+    };
+    answer = made_now j j' p was.kept client (shared c) log (rpc_reply (rpc_asked_for answered c) reply) room
+        (answered_by old.world answered client c ∙ ap (rpc_reply (rpc_asked_for answered c)) (made.answer calls was.served));
+  }
 
-      pub entered_answer : length j.log < 1000000 → Made (known_of j p) (known_of j' p) (entry_of (known_of j p) client (shared c)) (rpc_reply (rpc_asked_for (history (known_of j p).world j.log) c) reply)
-      entered_answer room =
-          made_now j j' p kept client (shared c) log (rpc_reply (rpc_asked_for answered c) reply) room
-          (answered_by old.world answered client c ∙ ap (rpc_reply (rpc_asked_for answered c)) (made.answer calls routed))
+  -- the fault of a call that takes no memory
+  refused_by : (fault : RpcFault) → length j.log < 1000000 → router.Refuses r r' client c fault → Failed AreRouted (known_of j p) j' p r' (entry_of (known_of j p) client (shared c)) (rpc_fault fault)
+  refused_by (faults.NoProvider rpc) room is = let it = entered_call (replies.Refused (faults.NoProvider rpc)) room is.made in record { service = it.service; answer = it.answer }
+  refused_by (faults.ProviderTaken rpc) room is = let it = entered_call (replies.Refused (faults.ProviderTaken rpc)) room is.made in record { service = it.service; answer = it.answer }
+  refused_by (faults.NoCall id) room is = let it = entered_call (replies.Refused (faults.NoCall id)) room is.made in record { service = it.service; answer = it.answer }
+  refused_by faults.NoMemory room is = absurd is
 
-    refused : (fault : RpcFault) → length j.log < 1000000 → router.IsRefused r r' client c fault → Made (known_of j p) (known_of j' p) (entry_of (known_of j p) client (shared c)) (rpc_reply (rpc_asked_for (history (known_of j p).world j.log) c) (replies.Refused fault))
-    refused fault room is = entered_answer (replies.Refused fault) is.made room
+  pub refused_call : (fault : RpcFault) (f : CallFault) → f ≡ rpc_fault fault → length j.log < 1000000 → router.Refuses r r' client c fault → Failed AreRouted (known_of j p) j' p r' (entry_of (known_of j p) client (shared c)) f
+  refused_call fault f of_router room is = subst (Failed AreRouted (known_of j p) j' p r' (entry_of (known_of j p) client (shared c))) (sym of_router) (refused_by fault room is)
 
-    -- a fault of a call that takes no memory
-    pub refused_call : (fault : RpcFault) → length j.log < 1000000 → router.Refuses r r' client c fault → Failed (known_of j p) j' p r' (entry_of (known_of j p) client (shared c)) fault
-    refused_call (faults.NoProvider rpc) room is = record { kept = entered_kept; routed = entered_routed (replies.Refused (faults.NoProvider rpc)) is.made; answer = refused (faults.NoProvider rpc) room is }
-    refused_call (faults.ProviderTaken rpc) room is = record { kept = entered_kept; routed = entered_routed (replies.Refused (faults.ProviderTaken rpc)) is.made; answer = refused (faults.ProviderTaken rpc) room is }
-    refused_call (faults.NoCall id) room is = record { kept = entered_kept; routed = entered_routed (replies.Refused (faults.NoCall id)) is.made; answer = refused (faults.NoCall id) room is }
-    refused_call faults.NoMemory room is = absurd is
+  module _ (undo : taken_back j' ≡ j) where
+    failed_by : (fault : RpcFault) → length j.log < 1000000 → router.Fails r r' client c fault → Failed AreRouted (known_of j p) (left_by fault j') p r' (entry_of (known_of j p) client (shared c)) (rpc_fault fault)
+    failed_by (faults.NoProvider rpc) room fails = refused_by (faults.NoProvider rpc) room fails
+    failed_by (faults.ProviderTaken rpc) room fails = refused_by (faults.ProviderTaken rpc) room fails
+    failed_by (faults.NoCall id) room fails = refused_by (faults.NoCall id) room fails
+    failed_by faults.NoMemory room same = subst (λ (x : Noted). Failed AreRouted (known_of j p) x p r' (entry_of (known_of j p) client (shared c)) (rpc_fault faults.NoMemory)) (sym undo) (record {
+      service = subst (IsServed AreRouted j p) (sym same) was;
+      answer = refl;
+    })
 
-    module _ (undo : taken_back j' ≡ j) where
-      failed_at : (fault : RpcFault) → length j.log < 1000000 → router.Fails r r' client c fault → Failed (known_of j p) (left_by fault j') p r' (entry_of (known_of j p) client (shared c)) fault
-      failed_at (faults.NoProvider rpc) room fails = refused_call (faults.NoProvider rpc) room fails
-      failed_at (faults.ProviderTaken rpc) room fails = refused_call (faults.ProviderTaken rpc) room fails
-      failed_at (faults.NoCall id) room fails = refused_call (faults.NoCall id) room fails
-      failed_at faults.NoMemory room same = subst (λ (x : Noted). Failed (known_of j p) x p r' (entry_of (known_of j p) client (shared c)) faults.NoMemory) (sym undo) (record {
-        kept = kept;
-        routed = subst (λ (x : Routes). AreRouted (known_of j p) x) (sym same) routed;
-        answer = refl;
-      })
-
-      -- a fault of a call
-      pub failed_call : (fault : RpcFault) (j'' : Noted) → j'' ≡ left_by fault j' → length j.log < 1000000 → router.Fails r r' client c fault → Failed (known_of j p) j'' p r' (entry_of (known_of j p) client (shared c)) fault
-      failed_call fault j'' left room fails = subst (λ (x : Noted). Failed (known_of j p) x p r' (entry_of (known_of j p) client (shared c)) fault) (sym left) (failed_at fault room fails)
+    -- the fault of a call
+    pub failed_call : (fault : RpcFault) (f : CallFault) → f ≡ rpc_fault fault → (j'' : Noted) → j'' ≡ left_by fault j' → length j.log < 1000000 → router.Fails r r' client c fault → Failed AreRouted (known_of j p) j'' p r' (entry_of (known_of j p) client (shared c)) f
+    failed_call fault f of_router j'' left room fails =
+        subst (λ (x : Noted). Failed AreRouted (known_of j p) x p r' (entry_of (known_of j p) client (shared c)) f) (sym left)
+        (subst (Failed AreRouted (known_of j p) (left_by fault j') p r' (entry_of (known_of j p) client (shared c))) (sym of_router) (failed_by fault room fails))
 
 -- the answer to a next call
 pub next_reply_is : (o : Option Request) → rpc_reply 0 (next_reply o) ≡ request_reply o
@@ -192,8 +194,8 @@ made_number : (o : Option ℕ) (count number rpc : ℕ) → (if is_some o then r
 made_number None count number rpc e = cc
 made_number (Some owner) count number rpc e = (owner, refl, let one : count + 1 ≡ suc count = omega arith in sym (ap number_in e) ∙ one)
 
-module _ (j j' : Noted) (p : Pipeline) (kept : IsKept j p) (client rpc : ℕ) (context : Option (List Step)) (input : List Row) (log : j'.log ≡ jotted j.log client (Invoke rpc context input)) (marks : (k : ℕ) → mark_at j'.marks k ≡ mark_at j.marks k)
-    (r r' : Routes) (routed : AreRouted (known_of j p) r) (number : ℕ) (made : router.Makes r r' client (rpcs.Invoke rpc context input) (replies.CallMade number)) where
+module _ {j : Noted} {p : Pipeline} {r : Routes} (was : IsServed AreRouted j p r) (j' : Noted) (r' : Routes) (client rpc : ℕ) (context : Option (List Step)) (input : List Row) (log : j'.log ≡ jotted j.log client (Invoke rpc context input)) (marks : (k : ℕ) → mark_at j'.marks k ≡ mark_at j.marks k)
+    (number : ℕ) (made : router.Makes r r' client (rpcs.Invoke rpc context input) (replies.CallMade number)) where
   abbrev before : List Asked
   before = rpc_calls (history (known_of j p).world j.log)
 
@@ -202,10 +204,10 @@ module _ (j j' : Noted) (p : Pipeline) (kept : IsKept j p) (client rpc : ℕ) (c
 
   pub invoked : (id : CallId) → id ≡ record { number = number; rpc = rpc } → IsCall (known_of j' p) id
   invoked id is =
-      let found = made_number (owner_of (made_of before) rpc context) (length rs) number rpc (made.answer before routed) in
+      let found = made_number (owner_of (made_of before) rpc context) (length rs) number rpc (made.answer before was.served) in
       let fresh : Requested = record { by = client; owner = found.0; rpc = rpc; context = context; input = input } in
       let grown : requests (made_of (rpc_calls (history (known_of j p).world j'.log))) ≡ rs ++ fresh ∷ [] =
-      ap (λ (l : List Asked). requests (made_of l)) (longer j j' p kept client (rpcs.Invoke rpc context input) log marks)
+      ap (λ (l : List Asked). requests (made_of l)) (longer was j' r' client (rpcs.Invoke rpc context input) log marks)
       ∙ requests-push before (record { client = client; call = rpcs.Invoke rpc context input })
       ∙ ap (λ (o : Option ℕ). rs ++ option_to_list (requested client o (rpcs.Invoke rpc context input))) found.1 in
       let at : request_at (requests (made_of (rpc_calls (history (known_of j p).world j'.log)))) number ≡ Some fresh =

@@ -1,6 +1,7 @@
 -- The states of services stay those of the log with each call that is on none of them.
 use Rattle.std.proofs.Common.{◌≡◌, ◌⊎◌, ℕ, Bool, true, false, List, [], ◌∷◌, ◌++◌, Option, None, Some, refl, ap, sym, ◌∙◌, subst, append-nil, inl, inr}
 use Rattle.std.specs.Option.{option_map, option_map_or, option_to_list}
+use Rattle.sal_rows.specs.declared.outcome.CallFault.{CallFault}
 use Rattle.sal_rows.specs.Spans.{is_of_chain}
 use Rattle.sal_rpc.specs.declared.call.RpcCall.{RpcCall}
 use Rattle.sal_rpc.specs.Routes as routes
@@ -21,14 +22,15 @@ use Rattle.sal_history.specs.Submissions.{Base}
 use Rattle.sal_history.specs.Versions.{upgraded}
 use Rattle.sal_hub.specs.declared.pipeline.Pipeline.{Pipeline}
 use Rattle.sal_hub.specs.declared.services.Services.{Services}
-use Rattle.sal_hub.specs.Current.{IsKept, answers}
+use Rattle.sal_hub.specs.Answers.{Fails, Made}
+use Rattle.sal_hub.specs.Current.{IsKept, answers, known_of}
 use Rattle.sal_hub.specs.HubHistory.{HubHistory, more}
 use Rattle.sal_hub.specs.Journals.{Noted, jotted, mark_at}
 use Rattle.sal_hub.specs.Mounted.{AreMounted}
 use Rattle.sal_hub.specs.Notified.{AreNoted}
 use Rattle.sal_hub.specs.PipelineView.{queue_of, world_in}
 use Rattle.sal_hub.specs.Routed.{AreRouted}
-use Rattle.sal_hub.specs.Services.{AreServed}
+use Rattle.sal_hub.specs.Services.{AreServed, IsServed}
 use Rattle.sal_hub.proofs.Beginning.{quiet_kept}
 use Rattle.sal_hub.proofs.Histories.{mounting-quiet, note-push, rpc-push}
 use Rattle.sal_hub.proofs.Listened.{is_listening}
@@ -165,6 +167,18 @@ pub serving_unspent : (call : Call) → is_serving call ≡ true → (reply : Re
 serving_unspent (Submit at ops) e reply place = cc
 serving_unspent (Cancel at) e reply place = cc
 serving_unspent call e reply place = refl
+
+-- ---- the state after a call on one service
+
+-- after one that was made, with its reply
+pub record Entered {S : Type 0} (IsOfLog : HubHistory → S → Type 0) (known : HubHistory) (j : Noted) (p : Pipeline) (s : S) (e : Entry) (reply : Reply) : Type 0 where
+  pub service : IsServed IsOfLog j p s
+  pub answer : Made known (known_of j p) e reply
+
+-- after one that failed
+pub record Failed {S : Type 0} (IsOfLog : HubHistory → S → Type 0) (known : HubHistory) (j : Noted) (p : Pipeline) (s : S) (e : Entry) (fault : CallFault) : Type 0 where
+  pub service : IsServed IsOfLog j p s
+  pub answer : Fails known (known_of j p) e fault
 
 -- a call on the router or on notifications
 pub serving_kept : (j j' : Noted) (p : Pipeline) → IsKept j p → (client : ℕ) (call : Call) → is_serving call ≡ true → mount_call call ≡ None → j'.log ≡ jotted j.log client call → ((k : ℕ) → mark_at j'.marks k ≡ mark_at j.marks k) → IsKept j' p

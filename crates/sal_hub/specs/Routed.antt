@@ -1,10 +1,15 @@
 -- The hub's RPCs are those of its log, and the effect of a call on the router.
-use Rattle.std.specs.Prelude.{ℕ, List, Option, None, Some}
+use Rattle.std.specs.Prelude.{ℕ, Bool, true, false, List, Option, None, Some}
+use Rattle.sal_types.specs.declared.value.Step.{Step}
 use Rattle.sal_types.specs.declared.row.Row.{Row}
 use Rattle.sal_rpc.specs.declared.call.Request.{Request as Requested}
+use Rattle.sal_rpc.specs.declared.call.RpcCall.{RpcCall}
+use Rattle.sal_rpc.specs.declared.call.RpcCall.TheVariants as rpcs
 use Rattle.sal_rpc.specs.declared.call.RpcFault.{RpcFault}
 use Rattle.sal_rpc.specs.declared.call.RpcFault.TheVariants.{NoMemory}
 use Rattle.sal_rpc.specs.Routes.{IsOf, Routes}
+use Rattle.sal_history.specs.declared.call.Call.{Call}
+use Rattle.sal_history.specs.declared.call.Call.TheVariants.{Answer, Collect, Invoke, NextCall, Provide, Withdraw}
 use Rattle.sal_history.specs.declared.reply.Reply.{Reply}
 use Rattle.sal_history.specs.declared.reply.Reply.TheVariants.{Nothing, Output, Request}
 use Rattle.sal_history.specs.History.{history}
@@ -15,6 +20,22 @@ use Rattle.sal_hub.specs.HubHistory.{HubHistory}
 -- the routes are those of the log's calls on the router
 abbrev pub AreRouted : HubHistory → Routes → Type 0
 AreRouted known router = IsOf (rpc_calls (history known.world known.log)) router
+
+-- ---- calls
+
+-- as shared calls
+abbrev pub shared : RpcCall → Call
+shared (rpcs.Provide rpc context) = Provide rpc context
+shared (rpcs.Withdraw rpc context) = Withdraw rpc context
+shared (rpcs.Invoke rpc context input) = Invoke rpc context input
+shared rpcs.NextCall = NextCall
+shared (rpcs.Answer id rows) = Answer id rows
+shared (rpcs.Collect id) = Collect id
+
+-- the one that begins a registration, or ends it
+abbrev pub registering : Bool → ℕ → Option (List Step) → RpcCall
+registering true rpc context = rpcs.Provide rpc context
+registering false rpc context = rpcs.Withdraw rpc context
 
 -- ---- answers
 

@@ -9,7 +9,7 @@ ghost use Rattle.sal_history.specs.declared.call.Call.TheVariants.{ChainBegin, C
 ghost use Rattle.sal_history.specs.declared.reply.Reply.TheVariants.{Begun as Answered, Chain as Opened};
 ghost use Rattle.sal_history.specs.History.{chain_refusal, fault_if};
 ghost use Rattle.sal_hub.specs.declared.chain.Chain.{Chain as Given};
-ghost use Rattle.sal_hub.specs.Answers.{Calls, Made, limit};
+ghost use Rattle.sal_hub.specs.Answers.{Calls, CallsOver, Made, limit};
 ghost use Rattle.sal_hub.specs.Chains.{Adds, AreChains, AreSame, IsFooting, is_open, pending_of};
 ghost use Rattle.sal_hub.specs.Current.{IsKept, answers, known_of};
 ghost use Rattle.sal_hub.specs.Failures.{IsWithin, flag_in};
@@ -107,7 +107,7 @@ pub(crate) fn chain_begin(
     requires token { IsChain (known_of journal.old pipeline.now) ask.chain }
     ensures kept { IsKept journal.new pipeline.now }
     ensures chains { AreChains (known_of journal.new pipeline.now) chains.new }
-    ensures answer { Calls (known_of journal.old pipeline.now) (known_of journal.new pipeline.now) (entry_of (known_of journal.old pipeline.now) ask.client (ChainBegin ask.chain.id ask.mode)) (λ (tx : Token). Answered (begun_of tx).base_commit (begun_of tx).on) result }
+    ensures answer { CallsOver pipeline.now journal.old journal.new ask.client (ChainBegin ask.chain.id ask.mode) (λ (tx : Token). Answered (begun_of tx).base_commit (begun_of tx).on) result }
     ensures token { IfOk result (IsToken (known_of journal.new pipeline.now)) }
     ensures fresh { IfOk result (IsFresh (known_of journal.old pipeline.now) ask.chain.domain (Some ask.chain.id) ask.mode) }
 {

@@ -4,10 +4,9 @@ ghost use Rattle.sal_rows.specs.declared.batch.Batch.{Batch as Told};
 ghost use Rattle.sal_graft.specs.Kept.{AreKept};
 ghost use Rattle.sal_history.specs.declared.call.Call.TheVariants.{Take, Unlisten};
 ghost use Rattle.sal_history.specs.declared.reply.Reply.TheVariants.{Accepted, Batch as Tells};
-ghost use Rattle.sal_hub.specs.Answers.{Calls, limit};
+ghost use Rattle.sal_hub.specs.Answers.{CallsOver, limit};
 ghost use Rattle.sal_hub.specs.Current.{IsKept, known_of};
 ghost use Rattle.sal_hub.specs.Journals.{jotted, mark_at};
-ghost use Rattle.sal_hub.specs.HubHistory.{entry_of};
 ghost use Rattle.sal_hub.specs.PipelineView.{AllKept, is_live_in, queue_of};
 ghost use Rattle.sal_hub.specs.Listeners as spec;
 ghost use Rattle.sal_hub.specs.Tokens.{IsListener};
@@ -46,7 +45,7 @@ impl Listeners {
         requires room { length journal.old.log < limit }
         ensures kept { IsKept journal.new pipeline.now }
         ensures listeners { spec.AreListeners (known_of journal.new pipeline.now) self.new }
-        ensures answer { Calls (known_of journal.old pipeline.now) (known_of journal.new pipeline.now) (entry_of (known_of journal.old pipeline.now) ask.now.client (spec.call_of ask.now)) (spec.listener_reply ask.now.domain ask.now.path.now) result }
+        ensures answer { CallsOver pipeline.now journal.old journal.new ask.now.client (spec.call_of ask.now) (spec.listener_reply ask.now.domain ask.now.path.now) result }
         ensures given { IfOk result (λ given. IsListener (known_of journal.new pipeline.now) given.0) }
         ensures domain { IfOk result (λ given. given.0.domain ≡ ask.now.domain) }
         ensures made { IfOk result (λ given. spec.IsMade (known_of journal.new pipeline.now) given.0 (record { client = ask.now.client; domain = ask.now.domain; store = ask.now.store; path = ask.now.path.now })) }
@@ -136,7 +135,7 @@ impl Listeners {
         requires token { IsListener (known_of journal.old pipeline.now) id }
         ensures kept { IsKept journal.new pipeline.now }
         ensures listeners { spec.AreListeners (known_of journal.new pipeline.now) self.new }
-        ensures answer { Calls (known_of journal.old pipeline.now) (known_of journal.new pipeline.now) (entry_of (known_of journal.old pipeline.now) client (Take id.number)) (λ (b : Told). Tells id.domain b) result }
+        ensures answer { CallsOver pipeline.now journal.old journal.new client (Take id.number) (λ (b : Told). Tells id.domain b) result }
     {
         let number = id.number();
         if !self.has(client, number) {
@@ -206,7 +205,7 @@ impl Listeners {
         requires token { IsListener (known_of journal.old pipeline.now) id }
         ensures kept { IsKept journal.new pipeline.now }
         ensures listeners { spec.AreListeners (known_of journal.new pipeline.now) self.new }
-        ensures answer { Calls (known_of journal.old pipeline.now) (known_of journal.new pipeline.now) (entry_of (known_of journal.old pipeline.now) client (Unlisten id.number)) (λ _. Accepted) result }
+        ensures answer { CallsOver pipeline.now journal.old journal.new client (Unlisten id.number) (λ _. Accepted) result }
     {
         let number = id.number();
         match journal.add(client, Call::Unlisten { id: number }) {

@@ -6,11 +6,12 @@ ghost use Rattle.sal_mount.specs.declared.call.MountReply.TheVariants as given;
 ghost use Rattle.sal_history.specs.declared.call.Call.TheVariants.{Mount, MountAt, Unmount};
 ghost use Rattle.sal_history.specs.declared.reply.Reply.TheVariants.{Accepted, MountAt as Mounted};
 ghost use Rattle.sal_history.specs.Services as services;
-ghost use Rattle.sal_hub.specs.Answers.{Calls, limit};
-ghost use Rattle.sal_hub.specs.Current.{IsKept, known_of};
+ghost use Rattle.sal_hub.specs.Answers.{Calls, CallsOver, limit};
+ghost use Rattle.sal_hub.specs.Current.{known_of};
 ghost use Rattle.sal_hub.specs.Journals.{taken_back};
 ghost use Rattle.sal_hub.specs.HubHistory.{entry_of};
 ghost use Rattle.sal_hub.specs.Mounted.{AreMounted, Enters, IsJotted};
+ghost use Rattle.sal_hub.specs.Services.{IsServed};
 
 use crate::hub::Hub;
 use crate::journal::Journal;
@@ -20,6 +21,14 @@ use sal_mount::{MountFault, Mounts};
 use sal_rows::CallFault;
 use sal_types::{Duplicate, NoMemory, Path};
 use std::alloc::Global;
+
+// The path at which a client wants to mount the device.
+#[derive(Clone, Copy)]
+struct MountAsk<'a> {
+    client: u32,
+    path: &'a Path,
+    device: u32,
+}
 
 impl Hub {
     /// Mounts the device at the path of the controller's own domain: the domain of its number is live from now on.
@@ -35,13 +44,16 @@ impl Hub {
         if self.journal.is_full() {
             return Err(CallFault::HistoryFull);
         }
+        let ask = MountAsk {
+            client,
+            path,
+            device,
+        };
         mount(
             &mut self.pipeline,
             &mut self.journal,
             &mut self.services.mounts,
-            client,
-            path,
-            device,
+            &ask,
         )
     }
 
@@ -88,20 +100,16 @@ fn mount(
     pipeline: &mut Pipeline,
     journal: &mut Journal,
     mounts: &mut Mounts,
-    client: u32,
-    path: &Path,
-    device: u32,
+    ask: &MountAsk,
 ) -> Result<(), CallFault>
-    requires kept { IsKept journal.old pipeline.old }
-    requires mounts { AreMounted (known_of journal.old pipeline.old) mounts.old }
+    requires service { IsServed AreMounted journal.old pipeline.old mounts.old }
     requires room { length journal.old.log < limit }
-    ensures kept { IsKept journal.new pipeline.new }
-    ensures mounts { AreMounted (known_of journal.new pipeline.new) mounts.new }
-    ensures answer { Calls (known_of journal.old pipeline.old) (known_of journal.new pipeline.new) (entry_of (known_of journal.old pipeline.old) client (Mount path.now device)) (λ _. Accepted) result }
+    ensures service { IsServed AreMounted journal.new pipeline.new mounts.new }
+    ensures answer { Calls (known_of journal.old pipeline.old) (known_of journal.new pipeline.new) (entry_of (known_of journal.old pipeline.old) ask.now.client (Mount ask.now.path.now ask.now.device)) (λ _. Accepted) result }
 {
-    match add_mount(journal, mounts, client, path, device) {
+    match add_mount(journal, mounts, ask) {
         Ok(()) => {
-            pipeline.set_live(device, true);
+            pipeline.set_live(ask.device, true);
             Ok(())
         }
         Err(fault) => Err(mount_fault(fault)),
@@ -116,11 +124,9 @@ fn unmount(
     client: u32,
     domain: u32,
 ) -> Result<(), CallFault>
-    requires kept { IsKept journal.old pipeline.old }
-    requires mounts { AreMounted (known_of journal.old pipeline.old) mounts.old }
+    requires service { IsServed AreMounted journal.old pipeline.old mounts.old }
     requires room { length journal.old.log < limit }
-    ensures kept { IsKept journal.new pipeline.new }
-    ensures mounts { AreMounted (known_of journal.new pipeline.new) mounts.new }
+    ensures service { IsServed AreMounted journal.new pipeline.new mounts.new }
     ensures answer { Calls (known_of journal.old pipeline.old) (known_of journal.new pipeline.new) (entry_of (known_of journal.old pipeline.old) client (Unmount domain)) (λ _. Accepted) result }
 {
     match add_unmount(journal, mounts, client, domain) {
@@ -140,12 +146,10 @@ fn mount_at(
     client: u32,
     path: &Path,
 ) -> Result<Option<u32>, CallFault>
-    requires kept { IsKept journal.old pipeline.now }
-    requires mounts { AreMounted (known_of journal.old pipeline.now) mounts.now }
+    requires service { IsServed AreMounted journal.old pipeline.now mounts.now }
     requires room { length journal.old.log < limit }
-    ensures kept { IsKept journal.new pipeline.now }
-    ensures mounts { AreMounted (known_of journal.new pipeline.now) mounts.now }
-    ensures answer { Calls (known_of journal.old pipeline.now) (known_of journal.new pipeline.now) (entry_of (known_of journal.old pipeline.now) client (MountAt path.now)) (λ (at : Option ℕ). Mounted at) result }
+    ensures service { IsServed AreMounted journal.new pipeline.now mounts.now }
+    ensures answer { CallsOver pipeline.now journal.old journal.new client (MountAt path.now) (λ (at : Option ℕ). Mounted at) result }
 {
     match note_question(journal, client, path) {
         Ok(()) => Ok(mounts.mount_at(path)),
@@ -166,22 +170,16 @@ fn mount_fault(fault: MountFault) -> CallFault
 }
 
 // Makes the call, and adds its entry. If memory runs out, nothing visible changes.
-fn add_mount(
-    journal: &mut Journal,
-    mounts: &mut Mounts,
-    client: u32,
-    path: &Path,
-    device: u32,
-) -> Result<(), MountFault>
+fn add_mount(journal: &mut Journal, mounts: &mut Mounts, ask: &MountAsk) -> Result<(), MountFault>
     requires { length journal.old.log < limit }
-    ensures made { mounting.Answers mounts.old mounts.new (asked.Mount path.now device) (λ _. given.Accepted) result }
-    ensures entry { Enters journal.old journal.new client (Mount path.now device) result }
+    ensures made { mounting.Answers mounts.old mounts.new (asked.Mount ask.now.path.now ask.now.device) (λ _. given.Accepted) result }
+    ensures entry { Enters journal.old journal.new ask.now.client (Mount ask.now.path.now ask.now.device) result }
 {
-    match note_mount(journal, client, path, device) {
+    match note_mount(journal, ask) {
         Ok(()) => {}
         Err(NoMemory) => return Err(MountFault::NoMemory),
     }
-    match mounts.mount(path, device) {
+    match mounts.mount(ask.path, ask.device) {
         Ok(()) => Ok(()),
         Err(MountFault::NoMemory) => {
             journal.take_back();
@@ -192,14 +190,15 @@ fn add_mount(
 }
 
 // Adds the entry of a mount.
-fn note_mount(journal: &mut Journal, client: u32, path: &Path, device: u32) -> Result<(), NoMemory>
+fn note_mount(journal: &mut Journal, ask: &MountAsk) -> Result<(), NoMemory>
     requires { length journal.old.log < limit }
-    ensures entry { OnOk result (IsJotted journal.old journal.new client (Mount path.now device)) }
+    ensures entry { OnOk result (IsJotted journal.old journal.new ask.now.client (Mount ask.now.path.now ask.now.device)) }
     ensures undo { OnOk result (taken_back journal.new ≡ journal.old) }
     ensures err { OnErr result (journal.new ≡ journal.old) }
 {
-    let path = path.copy()?;
-    journal.add(client, Call::Mount { path, device })?;
+    let path = ask.path.copy()?;
+    let device = ask.device;
+    journal.add(ask.client, Call::Mount { path, device })?;
     Ok(())
 }
 

@@ -3,11 +3,10 @@ ghost use Rattle.std.specs.Prelude.{◌≡◌, ℕ, ◌<◌, OnErr, OnOk, length
 ghost use Rattle.sal_history.specs.declared.call.Call.TheVariants.{Offer, Subscribe, TakeNotes};
 ghost use Rattle.sal_history.specs.declared.reply.Reply.TheVariants.{Accepted, Notes as Gives, Offered};
 ghost use Rattle.sal_history.specs.Services as services;
-ghost use Rattle.sal_hub.specs.Answers.{Calls, limit};
-ghost use Rattle.sal_hub.specs.Current.{IsKept, known_of};
+ghost use Rattle.sal_hub.specs.Answers.{CallsOver, limit};
 ghost use Rattle.sal_hub.specs.Journals.{jotted, mark_at, taken_back};
-ghost use Rattle.sal_hub.specs.HubHistory.{entry_of};
 ghost use Rattle.sal_hub.specs.Notified.{AreNoted, left_by};
+ghost use Rattle.sal_hub.specs.Services.{IsServed};
 
 use crate::journal::Journal;
 use crate::pipeline::Pipeline;
@@ -34,12 +33,10 @@ pub(crate) fn subscribe(
     client: u32,
     note: u32,
 ) -> Result<(), CallFault>
-    requires kept { IsKept journal.old pipeline.now }
-    requires noted { AreNoted (known_of journal.old pipeline.now) notes.old }
+    requires service { IsServed AreNoted journal.old pipeline.now notes.old }
     requires room { length journal.old.log < limit }
-    ensures kept { IsKept journal.new pipeline.now }
-    ensures noted { AreNoted (known_of journal.new pipeline.now) notes.new }
-    ensures answer { Calls (known_of journal.old pipeline.now) (known_of journal.new pipeline.now) (entry_of (known_of journal.old pipeline.now) client (Subscribe note)) (λ _. Accepted) result }
+    ensures service { IsServed AreNoted journal.new pipeline.now notes.new }
+    ensures answer { CallsOver pipeline.now journal.old journal.new client (Subscribe note) (λ _. Accepted) result }
 {
     match journal.add(client, Call::Subscribe { note }) {
         Ok(()) => {}
@@ -59,12 +56,10 @@ pub(crate) fn offer(
     notes: &mut Notes,
     offering: Offering,
 ) -> Result<u32, CallFault>
-    requires kept { IsKept journal.old pipeline.now }
-    requires noted { AreNoted (known_of journal.old pipeline.now) notes.old }
+    requires service { IsServed AreNoted journal.old pipeline.now notes.old }
     requires room { length journal.old.log < limit }
-    ensures kept { IsKept journal.new pipeline.now }
-    ensures noted { AreNoted (known_of journal.new pipeline.now) notes.new }
-    ensures answer { Calls (known_of journal.old pipeline.now) (known_of journal.new pipeline.now) (entry_of (known_of journal.old pipeline.now) offering.client (Offer offering.note offering.rows)) (λ (count : ℕ). Offered count) result }
+    ensures service { IsServed AreNoted journal.new pipeline.now notes.new }
+    ensures answer { CallsOver pipeline.now journal.old journal.new offering.client (Offer offering.note offering.rows) (λ (count : ℕ). Offered count) result }
 {
     match enter_offer(journal, &offering) {
         Ok(()) => {}
@@ -84,12 +79,10 @@ pub(crate) fn take_notes(
     notes: &mut Notes,
     client: u32,
 ) -> Result<NoteList, CallFault>
-    requires kept { IsKept journal.old pipeline.now }
-    requires noted { AreNoted (known_of journal.old pipeline.now) notes.old }
+    requires service { IsServed AreNoted journal.old pipeline.now notes.old }
     requires room { length journal.old.log < limit }
-    ensures kept { IsKept journal.new pipeline.now }
-    ensures noted { AreNoted (known_of journal.new pipeline.now) notes.new }
-    ensures answer { Calls (known_of journal.old pipeline.now) (known_of journal.new pipeline.now) (entry_of (known_of journal.old pipeline.now) client TakeNotes) Gives result }
+    ensures service { IsServed AreNoted journal.new pipeline.now notes.new }
+    ensures answer { CallsOver pipeline.now journal.old journal.new client TakeNotes Gives result }
 {
     match journal.add(client, Call::TakeNotes) {
         Ok(()) => {}

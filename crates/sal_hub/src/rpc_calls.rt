@@ -1,14 +1,16 @@
 //! The calls on the router.
 ghost use Rattle.std.specs.Prelude.{◌≡◌, ℕ, ◌<◌, IfOk, OnErr, OnOk, length};
-ghost use Rattle.sal_history.specs.declared.call.Call.TheVariants.{Answer, Collect, Invoke, NextCall, Provide, Withdraw};
+ghost use Rattle.sal_rpc.specs.Answers as routing;
+ghost use Rattle.sal_rpc.specs.declared.call.RpcReply.TheVariants as replies;
+ghost use Rattle.sal_history.specs.declared.call.Call.TheVariants.{Answer, Collect, Invoke, NextCall};
 ghost use Rattle.sal_history.specs.declared.reply.Reply.TheVariants.{Accepted, CallMade};
 ghost use Rattle.sal_history.specs.Services as services;
 ghost use Rattle.sal_hub.specs.declared.call_id.CallId.{CallId as Given};
-ghost use Rattle.sal_hub.specs.Answers.{Calls, limit};
-ghost use Rattle.sal_hub.specs.Current.{IsKept, known_of};
+ghost use Rattle.sal_hub.specs.Answers.{CallsOver, limit};
+ghost use Rattle.sal_hub.specs.Current.{known_of};
 ghost use Rattle.sal_hub.specs.Journals.{jotted, mark_at, taken_back};
-ghost use Rattle.sal_hub.specs.HubHistory.{entry_of};
-ghost use Rattle.sal_hub.specs.Routed.{AreRouted, left_by, collect_reply, request_reply};
+ghost use Rattle.sal_hub.specs.Routed.{AreRouted, left_by, collect_reply, registering, request_reply, shared};
+ghost use Rattle.sal_hub.specs.Services.{IsServed};
 ghost use Rattle.sal_hub.specs.Tokens.{IsCall};
 
 use crate::call_id::CallId;
@@ -20,12 +22,13 @@ use sal_rpc::{Request, Router, RpcFault};
 use sal_types::{Duplicate, NoMemory, Path};
 use std::alloc::Global;
 
-/// A client and the RPC that it provides, or withdraws, in the context, or without one.
+/// A client that begins to provide the RPC in the context, or without one, or ends that.
 #[derive(Drop)]
 pub(crate) struct Registration {
     pub(crate) client: u32,
     pub(crate) rpc: u32,
     pub(crate) context: Option<Path>,
+    pub(crate) begins: bool,
 }
 
 /// A client's request of an RPC, in the context, or without one.
@@ -37,51 +40,33 @@ pub(crate) struct RpcAsk {
     pub(crate) input: Rows,
 }
 
-/// Registers the client for the RPC, unless that is refused, and adds the entry.
-pub(crate) fn provide(
-    pipeline: &Pipeline,
-    journal: &mut Journal,
-    router: &mut Router,
-    registration: Registration,
-) -> Result<(), CallFault>
-    requires kept { IsKept journal.old pipeline.now }
-    requires routed { AreRouted (known_of journal.old pipeline.now) router.old }
-    requires room { length journal.old.log < limit }
-    ensures kept { IsKept journal.new pipeline.now }
-    ensures routed { AreRouted (known_of journal.new pipeline.now) router.new }
-    ensures answer { Calls (known_of journal.old pipeline.now) (known_of journal.new pipeline.now) (entry_of (known_of journal.old pipeline.now) registration.client (Provide registration.rpc registration.context)) (λ _. Accepted) result }
-{
-    match enter_provide(journal, &registration) {
-        Ok(()) => {}
-        Err(NoMemory) => return Err(CallFault::NoMemory),
-    }
-    match router.provide(registration.client, registration.rpc, registration.context) {
-        Ok(()) => Ok(()),
-        Err(fault) => Err(failed(journal, fault)),
-    }
+/// A client's answer: the number of the request, with the output.
+#[derive(Drop)]
+pub(crate) struct Answering {
+    pub(crate) client: u32,
+    pub(crate) id: u64,
+    pub(crate) output: Rows,
 }
 
-/// Ends the client's registration, unless that is refused, and adds the entry.
-pub(crate) fn withdraw(
+/// Begins or ends the registration, unless that is refused, and adds the entry.
+pub(crate) fn register(
     pipeline: &Pipeline,
     journal: &mut Journal,
     router: &mut Router,
     registration: Registration,
 ) -> Result<(), CallFault>
-    requires kept { IsKept journal.old pipeline.now }
-    requires routed { AreRouted (known_of journal.old pipeline.now) router.old }
+    requires service { IsServed AreRouted journal.old pipeline.now router.old }
     requires room { length journal.old.log < limit }
-    ensures kept { IsKept journal.new pipeline.now }
-    ensures routed { AreRouted (known_of journal.new pipeline.now) router.new }
-    ensures answer { Calls (known_of journal.old pipeline.now) (known_of journal.new pipeline.now) (entry_of (known_of journal.old pipeline.now) registration.client (Withdraw registration.rpc registration.context)) (λ _. Accepted) result }
+    ensures service { IsServed AreRouted journal.new pipeline.now router.new }
+    ensures answer { CallsOver pipeline.now journal.old journal.new registration.client (shared (registering registration.begins registration.rpc registration.context)) (λ _. Accepted) result }
 {
-    match enter_withdraw(journal, &registration) {
+    match enter_registration(journal, &registration) {
         Ok(()) => {}
         Err(NoMemory) => return Err(CallFault::NoMemory),
     }
-    match router.withdraw(registration.client, registration.rpc, registration.context) {
+    match register_at(router, registration) {
         Ok(()) => Ok(()),
-        Err(fault) => Err(rpc_fault(fault)),
+        Err(fault) => Err(failed(journal, fault)),
     }
 }
 
@@ -93,12 +78,10 @@ pub(crate) fn invoke(
     router: &mut Router,
     ask: RpcAsk,
 ) -> Result<CallId, CallFault>
-    requires kept { IsKept journal.old pipeline.now }
-    requires routed { AreRouted (known_of journal.old pipeline.now) router.old }
+    requires service { IsServed AreRouted journal.old pipeline.now router.old }
     requires room { length journal.old.log < limit }
-    ensures kept { IsKept journal.new pipeline.now }
-    ensures routed { AreRouted (known_of journal.new pipeline.now) router.new }
-    ensures answer { Calls (known_of journal.old pipeline.now) (known_of journal.new pipeline.now) (entry_of (known_of journal.old pipeline.now) ask.client (Invoke ask.rpc ask.context ask.input)) (λ (id : Given). CallMade id.number) result }
+    ensures service { IsServed AreRouted journal.new pipeline.now router.new }
+    ensures answer { CallsOver pipeline.now journal.old journal.new ask.client (Invoke ask.rpc ask.context ask.input) (λ (id : Given). CallMade id.number) result }
     ensures given { IfOk result (IsCall (known_of journal.new pipeline.now)) }
     ensures rpc { IfOk result (λ id. id.rpc ≡ ask.rpc) }
 {
@@ -120,12 +103,10 @@ pub(crate) fn next_call(
     router: &mut Router,
     client: u32,
 ) -> Result<Option<Request>, CallFault>
-    requires kept { IsKept journal.old pipeline.now }
-    requires routed { AreRouted (known_of journal.old pipeline.now) router.old }
+    requires service { IsServed AreRouted journal.old pipeline.now router.old }
     requires room { length journal.old.log < limit }
-    ensures kept { IsKept journal.new pipeline.now }
-    ensures routed { AreRouted (known_of journal.new pipeline.now) router.new }
-    ensures answer { Calls (known_of journal.old pipeline.now) (known_of journal.new pipeline.now) (entry_of (known_of journal.old pipeline.now) client NextCall) request_reply result }
+    ensures service { IsServed AreRouted journal.new pipeline.now router.new }
+    ensures answer { CallsOver pipeline.now journal.old journal.new client NextCall request_reply result }
 {
     match journal.add(client, Call::NextCall) {
         Ok(()) => {}
@@ -140,22 +121,18 @@ pub(crate) fn answer(
     pipeline: &Pipeline,
     journal: &mut Journal,
     router: &mut Router,
-    client: u32,
-    id: u64,
-    output: Rows,
+    answering: Answering,
 ) -> Result<(), CallFault>
-    requires kept { IsKept journal.old pipeline.now }
-    requires routed { AreRouted (known_of journal.old pipeline.now) router.old }
+    requires service { IsServed AreRouted journal.old pipeline.now router.old }
     requires room { length journal.old.log < limit }
-    ensures kept { IsKept journal.new pipeline.now }
-    ensures routed { AreRouted (known_of journal.new pipeline.now) router.new }
-    ensures answer { Calls (known_of journal.old pipeline.now) (known_of journal.new pipeline.now) (entry_of (known_of journal.old pipeline.now) client (Answer id output)) (λ _. Accepted) result }
+    ensures service { IsServed AreRouted journal.new pipeline.now router.new }
+    ensures answer { CallsOver pipeline.now journal.old journal.new answering.client (Answer answering.id answering.output) (λ _. Accepted) result }
 {
-    match enter_answer(journal, client, id, &output) {
+    match enter_answer(journal, &answering) {
         Ok(()) => {}
         Err(NoMemory) => return Err(CallFault::NoMemory),
     }
-    match router.answer(client, id, output) {
+    match router.answer(answering.client, answering.id, answering.output) {
         Ok(()) => Ok(()),
         Err(fault) => Err(rpc_fault(fault)),
     }
@@ -169,13 +146,11 @@ pub(crate) fn collect(
     client: u32,
     id: CallId,
 ) -> Result<Option<Rows>, CallFault>
-    requires kept { IsKept journal.old pipeline.now }
-    requires routed { AreRouted (known_of journal.old pipeline.now) router.now }
+    requires service { IsServed AreRouted journal.old pipeline.now router.now }
     requires room { length journal.old.log < limit }
     requires token { IsCall (known_of journal.old pipeline.now) id }
-    ensures kept { IsKept journal.new pipeline.now }
-    ensures routed { AreRouted (known_of journal.new pipeline.now) router.now }
-    ensures answer { Calls (known_of journal.old pipeline.now) (known_of journal.new pipeline.now) (entry_of (known_of journal.old pipeline.now) client (Collect id.number)) (collect_reply id.rpc) result }
+    ensures service { IsServed AreRouted journal.new pipeline.now router.now }
+    ensures answer { CallsOver pipeline.now journal.old journal.new client (Collect id.number) (collect_reply id.rpc) result }
 {
     let number = id.number();
     match journal.add(client, Call::Collect { id: number }) {
@@ -222,29 +197,39 @@ fn copied(context: &Option<Path>) -> Result<Option<Path>, NoMemory>
     }
 }
 
-// Adds the entry of a registration.
-fn enter_provide(journal: &mut Journal, registration: &Registration) -> Result<(), NoMemory>
+// Begins the registration at the router, or ends it.
+fn register_at(router: &mut Router, registration: Registration) -> Result<(), RpcFault>
+    ensures { routing.Answers router.old router.new registration.client (registering registration.begins registration.rpc registration.context) (λ _. replies.Accepted) result }
+{
+    if registration.begins {
+        router.provide(registration.client, registration.rpc, registration.context)
+    } else {
+        router.withdraw(registration.client, registration.rpc, registration.context)
+    }
+}
+
+// The call that begins a registration, or ends it.
+fn registration_call(begins: bool, rpc: u32, context: Option<Path>) -> Call
+    ensures { result ≡ shared (registering begins rpc context) }
+{
+    if begins {
+        Call::Provide { rpc, context }
+    } else {
+        Call::Withdraw { rpc, context }
+    }
+}
+
+// Adds the entry of a registration, or of its end.
+fn enter_registration(journal: &mut Journal, registration: &Registration) -> Result<(), NoMemory>
     requires { length journal.old.log < limit }
-    ensures log { OnOk result (journal.new.log ≡ jotted journal.old.log registration.now.client (Provide registration.now.rpc registration.now.context)) }
+    ensures log { OnOk result (journal.new.log ≡ jotted journal.old.log registration.now.client (shared (registering registration.now.begins registration.now.rpc registration.now.context))) }
     ensures marks { OnOk result ((k : ℕ) → mark_at journal.new.marks k ≡ mark_at journal.old.marks k) }
     ensures undo { OnOk result (taken_back journal.new ≡ journal.old) }
     ensures err { OnErr result (journal.new ≡ journal.old) }
 {
     let context = copied(&registration.context)?;
-    let rpc = registration.rpc;
-    journal.add(registration.client, Call::Provide { rpc, context })
-}
-
-// Adds the entry of the end of a registration.
-fn enter_withdraw(journal: &mut Journal, registration: &Registration) -> Result<(), NoMemory>
-    requires { length journal.old.log < limit }
-    ensures log { OnOk result (journal.new.log ≡ jotted journal.old.log registration.now.client (Withdraw registration.now.rpc registration.now.context)) }
-    ensures marks { OnOk result ((k : ℕ) → mark_at journal.new.marks k ≡ mark_at journal.old.marks k) }
-    ensures err { OnErr result (journal.new ≡ journal.old) }
-{
-    let context = copied(&registration.context)?;
-    let rpc = registration.rpc;
-    journal.add(registration.client, Call::Withdraw { rpc, context })
+    let call = registration_call(registration.begins, registration.rpc, context);
+    journal.add(registration.client, call)
 }
 
 // Adds the entry of a request.
@@ -267,12 +252,13 @@ fn enter_invoke(journal: &mut Journal, ask: &RpcAsk) -> Result<(), NoMemory>
 }
 
 // Adds the entry of an answer.
-fn enter_answer(journal: &mut Journal, client: u32, id: u64, output: &Rows) -> Result<(), NoMemory>
+fn enter_answer(journal: &mut Journal, answering: &Answering) -> Result<(), NoMemory>
     requires { length journal.old.log < limit }
-    ensures log { OnOk result (journal.new.log ≡ jotted journal.old.log client (Answer id output.now)) }
+    ensures log { OnOk result (journal.new.log ≡ jotted journal.old.log answering.now.client (Answer answering.now.id answering.now.output)) }
     ensures marks { OnOk result ((k : ℕ) → mark_at journal.new.marks k ≡ mark_at journal.old.marks k) }
     ensures err { OnErr result (journal.new ≡ journal.old) }
 {
-    let output = output.copy()?;
-    journal.add(client, Call::Answer { id, output })
+    let output = answering.output.copy()?;
+    let id = answering.id;
+    journal.add(answering.client, Call::Answer { id, output })
 }

@@ -5,14 +5,14 @@ ghost use Rattle.sal_history.specs.declared.reply.Reply.TheVariants.{Accepted, C
 ghost use Rattle.sal_hub.specs.declared.call_id.CallId.{CallId as Given};
 ghost use Rattle.sal_hub.specs.Answers.{Calls};
 ghost use Rattle.sal_hub.specs.HubHistory.{entry_of};
-ghost use Rattle.sal_hub.specs.Routed.{collect_reply, request_reply};
+ghost use Rattle.sal_hub.specs.Routed.{collect_reply, registering, request_reply, shared};
 ghost use Rattle.sal_hub.specs.Tokens.{IsCall};
 
 use crate::call_id::CallId;
 use crate::hub::Hub;
 use crate::note_calls::{Offering, offer, subscribe, take_notes};
 use crate::rpc_calls::{
-    Registration, RpcAsk, answer, collect, invoke, next_call, provide, withdraw,
+    Answering, Registration, RpcAsk, answer, collect, invoke, next_call, register,
 };
 use sal_note::NoteList;
 use sal_rows::{CallFault, Rows};
@@ -21,6 +21,21 @@ use sal_types::Path;
 use std::alloc::Global;
 
 impl Hub {
+    // Begins or ends the registration.
+    fn register(&mut self, registration: Registration) -> Result<(), CallFault>
+        ensures answer { Calls self.old self.new (entry_of self.old registration.client (shared (registering registration.begins registration.rpc registration.context))) (λ _. Accepted) result }
+    {
+        if self.journal.is_full() {
+            return Err(CallFault::HistoryFull);
+        }
+        register(
+            &self.pipeline,
+            &mut self.journal,
+            &mut self.services.router,
+            registration,
+        )
+    }
+
     /// Registers the client as the provider of the RPC in the context, or without one.
     pub fn provide(
         &mut self,
@@ -31,20 +46,13 @@ impl Hub {
     ) -> Result<(), CallFault>
         ensures answer { Calls self.old self.new (entry_of self.old client (Provide rpc context)) (λ _. Accepted) result }
     {
-        if self.journal.is_full() {
-            return Err(CallFault::HistoryFull);
-        }
         let registration = Registration {
             client,
             rpc,
             context,
+            begins: true,
         };
-        provide(
-            &self.pipeline,
-            &mut self.journal,
-            &mut self.services.router,
-            registration,
-        )
+        self.register(registration)
     }
 
     /// Ends the client's registration.
@@ -57,20 +65,13 @@ impl Hub {
     ) -> Result<(), CallFault>
         ensures answer { Calls self.old self.new (entry_of self.old client (Withdraw rpc context)) (λ _. Accepted) result }
     {
-        if self.journal.is_full() {
-            return Err(CallFault::HistoryFull);
-        }
         let registration = Registration {
             client,
             rpc,
             context,
+            begins: false,
         };
-        withdraw(
-            &self.pipeline,
-            &mut self.journal,
-            &mut self.services.router,
-            registration,
-        )
+        self.register(registration)
     }
 
     /// Makes a request of the RPC in the context, or without one: it goes to the client that is registered for it then.
@@ -132,13 +133,12 @@ impl Hub {
         if self.journal.is_full() {
             return Err(CallFault::HistoryFull);
         }
+        let answering = Answering { client, id, output };
         answer(
             &self.pipeline,
             &mut self.journal,
             &mut self.services.router,
-            client,
-            id,
-            output,
+            answering,
         )
     }
 

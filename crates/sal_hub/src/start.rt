@@ -7,11 +7,10 @@ ghost use Rattle.sal_tx.specs.declared.tx.Tx.{Tx as Token};
 ghost use Rattle.sal_history.specs.declared.call.Call.TheVariants.{Begin};
 ghost use Rattle.sal_history.specs.declared.reply.Reply.TheVariants.{Begun as Answered};
 ghost use Rattle.sal_hub.specs.declared.start.Footing.{Footing as Place};
-ghost use Rattle.sal_hub.specs.Answers.{Calls, limit};
+ghost use Rattle.sal_hub.specs.Answers.{CallsOver, limit};
 ghost use Rattle.sal_hub.specs.Chains.{call_of};
 ghost use Rattle.sal_hub.specs.Current.{IsKept, known_of};
 ghost use Rattle.sal_hub.specs.Journals.{jotted, mark_at};
-ghost use Rattle.sal_hub.specs.HubHistory.{entry_of};
 ghost use Rattle.sal_hub.specs.PipelineView.{CanBeSeen};
 ghost use Rattle.sal_hub.specs.Starts.{IsNewest, IsOn, Starts};
 ghost use Rattle.sal_hub.specs.Tokens.{IsFresh, IsToken, begun_of};
@@ -155,7 +154,7 @@ pub(crate) fn begin(
     requires kept { IsKept journal.old pipeline.now }
     requires room { length journal.old.log < limit }
     ensures kept { IsKept journal.new pipeline.now }
-    ensures answer { Calls (known_of journal.old pipeline.now) (known_of journal.new pipeline.now) (entry_of (known_of journal.old pipeline.now) client (Begin domain mode)) (λ (tx : Token). Answered (begun_of tx).base_commit (begun_of tx).on) result }
+    ensures answer { CallsOver pipeline.now journal.old journal.new client (Begin domain mode) (λ (tx : Token). Answered (begun_of tx).base_commit (begun_of tx).on) result }
     ensures token { IfOk result (IsToken (known_of journal.new pipeline.now)) }
     ensures fresh { IfOk result (IsFresh (known_of journal.old pipeline.now) domain None mode) }
 {

@@ -4,7 +4,7 @@ ghost use Rattle.sal_graft.specs.Kept.{AreKept};
 ghost use Rattle.sal_history.specs.declared.call.Call.TheVariants.{Upgrade};
 ghost use Rattle.sal_history.specs.declared.reply.Reply.TheVariants.{Accepted};
 ghost use Rattle.sal_history.specs.History.{upgrade_refusal};
-ghost use Rattle.sal_hub.specs.Answers.{Calls, limit};
+ghost use Rattle.sal_hub.specs.Answers.{Calls, CallsOver, limit};
 ghost use Rattle.sal_hub.specs.Current.{IsKept, answers, known_of};
 ghost use Rattle.sal_hub.specs.HubHistory.{entry_of};
 ghost use Rattle.sal_hub.specs.PipelineView.{queue_of, world_in};
@@ -107,7 +107,7 @@ fn refuse(
     requires room { length journal.old.log < limit }
     requires refused { upgrade_refusal (world_in (queue_of pipeline.now).domains) (answers journal.old.log (queue_of pipeline.now)) version ≡ Some fault }
     ensures kept { IsKept journal.new pipeline.now }
-    ensures answer { Calls (known_of journal.old pipeline.now) (known_of journal.new pipeline.now) (entry_of (known_of journal.old pipeline.now) client (Upgrade version)) (λ _. Accepted) result }
+    ensures answer { CallsOver pipeline.now journal.old journal.new client (Upgrade version) (λ _. Accepted) result }
 {
     match journal.add(client, Call::Upgrade { version }) {
         Ok(()) => Err(fault),

@@ -14,6 +14,9 @@ use sal_script::ScriptFault;
 use sal_types::{NoMemory, Str};
 use std::alloc::Global;
 
+// The reply to a step, unless memory ran out.
+type Played = Result<OwnerReply, NoMemory>;
+
 /// The text of the replies to the steps that the bytes denote, or the first bad input.
 pub fn owner_text(alloc: Global, bytes: &[u8]) -> Result<Str, ScriptFault>
     ensures { Reads (λ text. text) result (spec.owner_text bytes.now) }
@@ -71,7 +74,7 @@ fn play_step(
 }
 
 // Makes the call of the step.
-fn reply_to(alloc: Global, book: &mut OwnerBook, step: OwnerStep) -> Result<OwnerReply, NoMemory>
+fn reply_to(alloc: Global, book: &mut OwnerBook, step: OwnerStep) -> Played
     requires { length book.old < 1000000 }
     ensures { PlaysOr book.old book.new step result }
 {
@@ -85,12 +88,7 @@ fn reply_to(alloc: Global, book: &mut OwnerBook, step: OwnerStep) -> Result<Owne
     }
 }
 
-fn register(
-    alloc: Global,
-    book: &mut OwnerBook,
-    client: u32,
-    entity: Entity,
-) -> Result<OwnerReply, NoMemory>
+fn register(alloc: Global, book: &mut OwnerBook, client: u32, entity: Entity) -> Played
     requires { length book.old < 1000000 }
     ensures { PlaysOr book.old book.new (record { client = client; call = Register entity }) result }
 {
@@ -100,12 +98,7 @@ fn register(
     }
 }
 
-fn unregister(
-    alloc: Global,
-    book: &mut OwnerBook,
-    client: u32,
-    entity: Entity,
-) -> Result<OwnerReply, NoMemory>
+fn unregister(alloc: Global, book: &mut OwnerBook, client: u32, entity: Entity) -> Played
     requires { length book.old < 1000000 }
     ensures { PlaysOr book.old book.new (record { client = client; call = Unregister entity }) result }
 {
@@ -115,12 +108,7 @@ fn unregister(
     }
 }
 
-fn state(
-    alloc: Global,
-    book: &mut OwnerBook,
-    client: u32,
-    entity: &Entity,
-) -> Result<OwnerReply, NoMemory>
+fn state(alloc: Global, book: &mut OwnerBook, client: u32, entity: &Entity) -> Played
     requires { length book.old < 1000000 }
     ensures { PlaysOr book.old book.new (record { client = client; call = State entity.now }) result }
 {
@@ -130,12 +118,7 @@ fn state(
     }
 }
 
-fn watch(
-    alloc: Global,
-    book: &mut OwnerBook,
-    client: u32,
-    kind: Str,
-) -> Result<OwnerReply, NoMemory>
+fn watch(alloc: Global, book: &mut OwnerBook, client: u32, kind: Str) -> Played
     requires { length book.old < 1000000 }
     ensures { PlaysOr book.old book.new (record { client = client; call = Watch kind }) result }
 {
@@ -145,7 +128,7 @@ fn watch(
     }
 }
 
-fn changes(alloc: Global, book: &mut OwnerBook, client: u32) -> Result<OwnerReply, NoMemory>
+fn changes(alloc: Global, book: &mut OwnerBook, client: u32) -> Played
     requires { length book.old < 1000000 }
     ensures { PlaysOr book.old book.new (record { client = client; call = TakesChanges }) result }
 {
@@ -156,7 +139,7 @@ fn changes(alloc: Global, book: &mut OwnerBook, client: u32) -> Result<OwnerRepl
 }
 
 // A refusal is a reply; `NoMemory` is not.
-fn refused(fault: OwnerFault) -> Result<OwnerReply, NoMemory>
+fn refused(fault: OwnerFault) -> Played
     ensures { IfOk result (IsRefusal fault) }
 {
     match fault {

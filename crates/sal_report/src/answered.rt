@@ -4,6 +4,7 @@ ghost use Rattle.std.specs.List.{flat_map};
 ghost use Rattle.sal_script.specs.Report as spec;
 
 use crate::lines::{push_domains, push_order};
+use crate::pieces::Pushed;
 use crate::replies::push_reply;
 use crate::schemas::{Schemas, no_nodes};
 use crate::told::DomainEnd;
@@ -66,7 +67,7 @@ fn lined(
     Ok(Str::from_string(text))
 }
 
-fn push_lines(text: &mut String, lines: &[&str]) -> Result<(), NoMemory>
+fn push_lines(text: &mut String, lines: &[&str]) -> Pushed
     ensures { OnOk result (string_bytes text.new ≡ string_bytes text.old ++ flat_map (λ line. line.now) lines.now) }
 {
     for line in lines {

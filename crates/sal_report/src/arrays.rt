@@ -6,8 +6,9 @@ ghost use Rattle.serde_json.specs.Written.{compact_text};
 ghost use Rattle.sal_schema.specs.declared.table.SchemaTable.{SchemaTable};
 ghost use Rattle.sal_script.specs.BatchData.{list_data};
 
+use crate::pieces::Pushed;
 use sal_schema::Schema;
-use sal_types::{NoMemory, push_word};
+use sal_types::push_word;
 use std::alloc::Global;
 
 // The items of an array.
@@ -16,7 +17,7 @@ pub(crate) trait Item {
     ghost json: { SchemaTable → Self → Data };
 
     // Its JSON text.
-    fn push_item(&self, alloc: Global, text: &mut String, schema: &Schema) -> Result<(), NoMemory>
+    fn push_item(&self, alloc: Global, text: &mut String, schema: &Schema) -> Pushed
         ensures { OnOk result (string_bytes text.new ≡ string_bytes text.old ++ compact_text (json schema.now self.now)) };
 }
 
@@ -26,7 +27,7 @@ pub(crate) fn push_array<T: Item>(
     text: &mut String,
     schema: &Schema,
     items: &[T],
-) -> Result<(), NoMemory>
+) -> Pushed
     ensures { OnOk result (string_bytes text.new ≡ string_bytes text.old ++ compact_text (list_data (map (T.json schema.now) items.now))) }
 {
     let [first, more @ ..] = items else {
@@ -39,12 +40,7 @@ pub(crate) fn push_array<T: Item>(
 }
 
 // A comma and an item, for each.
-fn push_more<T: Item>(
-    alloc: Global,
-    text: &mut String,
-    schema: &Schema,
-    items: &[T],
-) -> Result<(), NoMemory>
+fn push_more<T: Item>(alloc: Global, text: &mut String, schema: &Schema, items: &[T]) -> Pushed
     ensures { OnOk result (string_bytes text.new ≡ string_bytes text.old ++ flat_map (λ item. 44 ∷ compact_text (T.json schema.now item)) items.now) }
 {
     for item in items {

@@ -8,7 +8,7 @@ ghost use Rattle.sal_data.specs.Written.{scalar_json};
 ghost use Rattle.sal_script.specs.BatchData as spec;
 
 use crate::arrays::{Item, push_array};
-use crate::pieces::push_location;
+use crate::pieces::{Pushed, push_location};
 use crate::words::candidate_word;
 use sal_json::write_scalar;
 use sal_rows::{Change, Part};
@@ -22,7 +22,7 @@ use std::alloc::Global;
 impl Item for Part {
     ghost json = { spec.part_data };
 
-    fn push_item(&self, alloc: Global, text: &mut String, schema: &Schema) -> Result<(), NoMemory> {
+    fn push_item(&self, alloc: Global, text: &mut String, schema: &Schema) -> Pushed {
         write!(text, "[{},", self.commit)?;
         text.push_str(candidate_word(self.kind))?;
         text.push(',')?;
@@ -35,7 +35,7 @@ impl Item for Part {
 impl Item for Change {
     ghost json = { spec.change_data };
 
-    fn push_item(&self, alloc: Global, text: &mut String, schema: &Schema) -> Result<(), NoMemory> {
+    fn push_item(&self, alloc: Global, text: &mut String, schema: &Schema) -> Pushed {
         text.push('[')?;
         push_location(alloc, text, schema, &self.path)?;
         push_cell(alloc, text, schema, &self.path, &self.before)?;
@@ -51,7 +51,7 @@ fn push_cell(
     schema: &Schema,
     path: &Path,
     cell: &Option<Cell>,
-) -> Result<(), NoMemory>
+) -> Pushed
     ensures { OnOk result (string_bytes text.new ≡ string_bytes text.old ++ (44 ∷ compact_text (spec.cell_data schema.now path.now cell.now))) }
 {
     match cell {
@@ -71,7 +71,7 @@ fn push_leaf(
     schema: &Schema,
     path: &Path,
     value: &Value,
-) -> Result<(), NoMemory>
+) -> Pushed
     ensures { OnOk result (string_bytes text.new ≡ string_bytes text.old ++ compact_text (spec.leaf_data schema.now (last_step path.now) value.now)) }
 {
     let json = leaf_json(alloc, schema, path.steps().last(), value)?;

@@ -3,7 +3,7 @@ ghost use Rattle.std.specs.Prelude.{◌≡◌, ◌++◌, IfOk, OnOk, string_byte
 ghost use Rattle.sal_script.specs.MessageData.{node_text};
 ghost use Rattle.sal_script.specs.Report as spec;
 
-use crate::pieces::push_path;
+use crate::pieces::{Pushed, push_path};
 use sal_rows::{Breach, Rule};
 use sal_schema::Schema;
 use sal_types::{NoMemory, Path, Str, push_word};
@@ -34,7 +34,7 @@ pub(crate) fn push_breach(
     schema: &Schema,
     path: &Path,
     rule: Rule,
-) -> Result<(), NoMemory>
+) -> Pushed
     ensures { OnOk result (string_bytes text.new ≡ string_bytes text.old ++ spec.breach_text schema.now path.now rule) }
 {
     push_path(alloc, text, schema, path)?;
@@ -42,7 +42,7 @@ pub(crate) fn push_breach(
     push_rule(text, schema, rule)
 }
 
-fn push_rule(text: &mut String, schema: &Schema, rule: Rule) -> Result<(), NoMemory>
+fn push_rule(text: &mut String, schema: &Schema, rule: Rule) -> Pushed
     ensures { OnOk result (string_bytes text.new ≡ string_bytes text.old ++ spec.rule_text schema.now rule) }
 {
     match rule {
@@ -55,12 +55,7 @@ fn push_rule(text: &mut String, schema: &Schema, rule: Rule) -> Result<(), NoMem
 }
 
 // A word and the name of a node with that of its module.
-pub(crate) fn push_named(
-    text: &mut String,
-    schema: &Schema,
-    word: &str,
-    node: u32,
-) -> Result<(), NoMemory>
+pub(crate) fn push_named(text: &mut String, schema: &Schema, word: &str, node: u32) -> Pushed
     ensures { OnOk result (string_bytes text.new ≡ string_bytes text.old ++ (word.now ++ node_text schema.now node)) }
 {
     text.push_str(word)?;
@@ -68,7 +63,7 @@ pub(crate) fn push_named(
 }
 
 // The name of a node with that of its module.
-pub(crate) fn push_node(text: &mut String, schema: &Schema, node: u32) -> Result<(), NoMemory>
+pub(crate) fn push_node(text: &mut String, schema: &Schema, node: u32) -> Pushed
     ensures { OnOk result (string_bytes text.new ≡ string_bytes text.old ++ node_text schema.now node) }
 {
     if node >= schema.len() {

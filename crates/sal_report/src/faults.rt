@@ -3,7 +3,7 @@ ghost use Rattle.std.specs.Prelude.{◌≡◌, ◌∷◌, ◌++◌, IfOk, OnOk, 
 ghost use Rattle.json.specs.Print.{quoted};
 ghost use Rattle.sal_script.specs.Report as spec;
 
-use crate::pieces::{push_numbered, push_path, push_quoted};
+use crate::pieces::{Pushed, push_numbered, push_path, push_quoted};
 use crate::words::scalar_word;
 use sal_data::DataFault;
 use sal_json::ScalarFault;
@@ -23,7 +23,7 @@ pub fn data_fault_text(alloc: Global, schema: &Schema, fault: &DataFault) -> Res
     Ok(Str::from_string(text))
 }
 
-pub(crate) fn push_path_fault(text: &mut String, fault: PathTextFault) -> Result<(), NoMemory>
+pub(crate) fn push_path_fault(text: &mut String, fault: PathTextFault) -> Pushed
     ensures { OnOk result (string_bytes text.new ≡ string_bytes text.old ++ spec.path_fault_text fault) }
 {
     match fault {
@@ -40,7 +40,7 @@ pub(crate) fn push_data_fault(
     text: &mut String,
     schema: &Schema,
     fault: &DataFault,
-) -> Result<(), NoMemory>
+) -> Pushed
     ensures { OnOk result (string_bytes text.new ≡ string_bytes text.old ++ spec.data_fault_text schema.now fault.now) }
 {
     match fault {
@@ -68,7 +68,7 @@ pub(crate) fn push_tx_fault(
     text: &mut String,
     schema: &Schema,
     fault: &TxFault,
-) -> Result<(), NoMemory>
+) -> Pushed
     ensures { OnOk result (string_bytes text.new ≡ string_bytes text.old ++ spec.tx_fault_text schema.now fault.now) }
 {
     match fault {
@@ -82,13 +82,7 @@ pub(crate) fn push_tx_fault(
 }
 
 // A word and the path of a place.
-fn push_place(
-    alloc: Global,
-    text: &mut String,
-    schema: &Schema,
-    word: &str,
-    path: &Path,
-) -> Result<(), NoMemory>
+fn push_place(alloc: Global, text: &mut String, schema: &Schema, word: &str, path: &Path) -> Pushed
     ensures { OnOk result (string_bytes text.new ≡ string_bytes text.old ++ (word.now ++ spec.path_text schema.now path.now)) }
 {
     text.push_str(word)?;
@@ -103,7 +97,7 @@ fn push_named(
     word: &str,
     path: &Path,
     name: &Str,
-) -> Result<(), NoMemory>
+) -> Pushed
     ensures { OnOk result (string_bytes text.new ≡ string_bytes text.old ++ (word.now ++ (spec.path_text schema.now path.now ++ (32 ∷ quoted name.now)))) }
 {
     push_place(alloc, text, schema, word, path)?;
@@ -111,7 +105,7 @@ fn push_named(
 }
 
 // A space and why a value is not of its type.
-fn push_scalar_fault(text: &mut String, fault: ScalarFault) -> Result<(), NoMemory>
+fn push_scalar_fault(text: &mut String, fault: ScalarFault) -> Pushed
     ensures { OnOk result (string_bytes text.new ≡ string_bytes text.old ++ (32 ∷ spec.scalar_text fault)) }
 {
     text.push(' ')?;

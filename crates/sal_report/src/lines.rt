@@ -3,7 +3,7 @@ ghost use Rattle.std.specs.Prelude.{◌≡◌, [], ◌∷◌, ◌++◌, IfOk, On
 ghost use Rattle.std.specs.List.{flat_map};
 ghost use Rattle.sal_script.specs.Report as spec;
 
-use crate::pieces::{push_number, push_numbered};
+use crate::pieces::{Pushed, push_number, push_numbered};
 use crate::replies::push_reply;
 use crate::schemas::{Schemas, no_nodes};
 use crate::told::DomainEnd;
@@ -69,7 +69,7 @@ fn line_of(alloc: Global, schemas: &Schemas, trees: &DomainEnd) -> Result<Str, N
     Ok(Str::from_string(text))
 }
 
-pub(crate) fn push_order(text: &mut String, log: &[Entry]) -> Result<(), NoMemory>
+pub(crate) fn push_order(text: &mut String, log: &[Entry]) -> Pushed
     ensures { OnOk result (string_bytes text.new ≡ string_bytes text.old ++ spec.order_line log.now) }
 {
     text.push_str("order")?;
@@ -78,7 +78,7 @@ pub(crate) fn push_order(text: &mut String, log: &[Entry]) -> Result<(), NoMemor
 }
 
 // The client of each entry.
-fn push_clients(text: &mut String, log: &[Entry]) -> Result<(), NoMemory>
+fn push_clients(text: &mut String, log: &[Entry]) -> Pushed
     ensures { OnOk result (string_bytes text.new ≡ string_bytes text.old ++ flat_map (λ entry. spec.number entry.client) log.now) }
 {
     for entry in log {
@@ -92,7 +92,7 @@ fn push_replies(
     text: &mut String,
     schemas: &Schemas,
     replies: &[Seq<StepReply>],
-) -> Result<(), NoMemory>
+) -> Pushed
     ensures { OnOk result (string_bytes text.new ≡ string_bytes text.old ++ spec.reply_lines schemas.now 0 replies.now) }
 {
     for (client, replies) in replies.iter().enumerate() {
@@ -108,7 +108,7 @@ fn push_client(
     schemas: &Schemas,
     client: usize,
     replies: &[StepReply],
-) -> Result<(), NoMemory>
+) -> Pushed
     ensures { OnOk result (string_bytes text.new ≡ string_bytes text.old ++ spec.client_lines schemas.now client 0 replies.now) }
 {
     for (step, reply) in replies.iter().enumerate() {
@@ -124,7 +124,7 @@ fn push_line(
     client: usize,
     step: usize,
     reply: &StepReply,
-) -> Result<(), NoMemory>
+) -> Pushed
     ensures { OnOk result (string_bytes text.new ≡ string_bytes text.old ++ spec.reply_line schemas.now client step reply.now) }
 {
     write!(text, "{client} {step} ")?;
@@ -138,7 +138,7 @@ pub(crate) fn push_domains(
     text: &mut String,
     schemas: &Schemas,
     trees: &[DomainEnd],
-) -> Result<(), NoMemory>
+) -> Pushed
     ensures { OnOk result (string_bytes text.new ≡ string_bytes text.old ++ flat_map (spec.tree_line schemas.now) trees.now) }
 {
     for domain in trees {
@@ -148,12 +148,7 @@ pub(crate) fn push_domains(
 }
 
 // The commits of a domain and its trees.
-fn push_trees(
-    alloc: Global,
-    text: &mut String,
-    schemas: &Schemas,
-    trees: &DomainEnd,
-) -> Result<(), NoMemory>
+fn push_trees(alloc: Global, text: &mut String, schemas: &Schemas, trees: &DomainEnd) -> Pushed
     ensures { OnOk result (string_bytes text.new ≡ string_bytes text.old ++ spec.tree_line schemas.now trees.now) }
 {
     let schema = schemas.of(trees.domain);

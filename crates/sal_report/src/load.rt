@@ -3,6 +3,7 @@ ghost use Rattle.std.specs.Prelude.{◌≡◌, ◌++◌, [], ◌∷◌, IfOk, On
 ghost use Rattle.sal_script.specs.Load as spec;
 ghost use Rattle.sal_script.specs.Words.{number};
 
+use crate::pieces::Pushed;
 use crate::told::DomainEnd;
 use sal_history::Entry;
 use sal_tree_text::tally_of;
@@ -28,7 +29,7 @@ pub fn summary(
 }
 
 // The line of the command's words.
-fn push_load(text: &mut String, rounds: u32, start: u32) -> Result<(), NoMemory>
+fn push_load(text: &mut String, rounds: u32, start: u32) -> Pushed
     ensures { OnOk result (string_bytes text.new ≡ string_bytes text.old ++ (codes "load" ++ (number rounds ++ (number start ++ (10 ∷ []))))) }
 {
     write!(text, "load {rounds} {start}\n")?;
@@ -36,12 +37,7 @@ fn push_load(text: &mut String, rounds: u32, start: u32) -> Result<(), NoMemory>
 }
 
 // The lines of the counts.
-fn push_totals(
-    alloc: Global,
-    text: &mut String,
-    log: &[Entry],
-    trees: &DomainEnd,
-) -> Result<(), NoMemory>
+fn push_totals(alloc: Global, text: &mut String, log: &[Entry], trees: &DomainEnd) -> Pushed
     ensures { OnOk result (string_bytes text.new ≡ string_bytes text.old ++ spec.totals_text (spec.totals_of log.now trees.now)) }
 {
     let tally = tally_of(alloc, &trees.trees.config)?;
@@ -52,7 +48,7 @@ fn push_totals(
 }
 
 // A word and a number.
-fn push_count(text: &mut String, word: &str, count: u128) -> Result<(), NoMemory>
+fn push_count(text: &mut String, word: &str, count: u128) -> Pushed
     ensures { OnOk result (string_bytes text.new ≡ string_bytes text.old ++ (word.now ++ (number count ++ (10 ∷ [])))) }
 {
     write!(text, "{word} {count}\n")?;

@@ -14,8 +14,11 @@ use sal_tree_text::{push_string, push_value};
 use sal_types::{NoMemory, Path};
 use std::alloc::Global;
 
+/// The result of a function that appends to the text.
+pub(crate) type Pushed = Result<(), NoMemory>;
+
 // A space and a number.
-pub(crate) fn push_number(text: &mut String, number: u64) -> Result<(), NoMemory>
+pub(crate) fn push_number(text: &mut String, number: u64) -> Pushed
     ensures { OnOk result (string_bytes text.new ≡ string_bytes text.old ++ spec.number number) }
 {
     write!(text, " {number}")?;
@@ -23,7 +26,7 @@ pub(crate) fn push_number(text: &mut String, number: u64) -> Result<(), NoMemory
 }
 
 // A word, a space and a number.
-pub(crate) fn push_numbered(text: &mut String, word: &str, number: u64) -> Result<(), NoMemory>
+pub(crate) fn push_numbered(text: &mut String, word: &str, number: u64) -> Pushed
     ensures { OnOk result (string_bytes text.new ≡ string_bytes text.old ++ (word.now ++ spec.number number)) }
 {
     text.push_str(word)?;
@@ -31,7 +34,7 @@ pub(crate) fn push_numbered(text: &mut String, word: &str, number: u64) -> Resul
 }
 
 // A space and a JSON text of these words.
-pub(crate) fn push_quoted(alloc: Global, text: &mut String, words: &str) -> Result<(), NoMemory>
+pub(crate) fn push_quoted(alloc: Global, text: &mut String, words: &str) -> Pushed
     ensures { OnOk result (string_bytes text.new ≡ string_bytes text.old ++ (32 ∷ quoted words.now)) }
 {
     text.push(' ')?;
@@ -39,12 +42,7 @@ pub(crate) fn push_quoted(alloc: Global, text: &mut String, words: &str) -> Resu
 }
 
 // A space and the text of a path.
-pub(crate) fn push_path(
-    alloc: Global,
-    text: &mut String,
-    schema: &Schema,
-    path: &Path,
-) -> Result<(), NoMemory>
+pub(crate) fn push_path(alloc: Global, text: &mut String, schema: &Schema, path: &Path) -> Pushed
     ensures { OnOk result (string_bytes text.new ≡ string_bytes text.old ++ spec.path_text schema.now path.now) }
 {
     let path = write_path(alloc, schema, path)?;
@@ -57,7 +55,7 @@ pub(crate) fn push_location(
     text: &mut String,
     schema: &Schema,
     path: &Path,
-) -> Result<(), NoMemory>
+) -> Pushed
     ensures { OnOk result (string_bytes text.new ≡ string_bytes text.old ++ quoted (written schema.now path.now)) }
 {
     let path = write_path(alloc, schema, path)?;
@@ -71,7 +69,7 @@ pub(crate) fn push_data(
     schema: &Schema,
     path: &Path,
     rows: &Rows,
-) -> Result<(), NoMemory>
+) -> Pushed
     ensures { OnOk result (string_bytes text.new ≡ string_bytes text.old ++ compact_text (write_data schema.now path.now rows.now)) }
 {
     let value = write_data(alloc, schema, path, rows)?;

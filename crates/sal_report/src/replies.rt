@@ -5,7 +5,7 @@ ghost use Rattle.sal_script.specs.Report as spec;
 use crate::breaches::{push_breach, push_named};
 use crate::faults::{push_data_fault, push_path_fault, push_tx_fault};
 use crate::listeners::{push_batch, push_listener, push_mirror};
-use crate::pieces::{push_data, push_numbered, push_path};
+use crate::pieces::{Pushed, push_data, push_numbered, push_path};
 use crate::schemas::Schemas;
 use crate::services::{push_mount, push_notes, push_output, push_request};
 use crate::words::{kind_word, store_word, truth_word};
@@ -22,7 +22,7 @@ pub(crate) fn push_reply(
     text: &mut String,
     schemas: &Schemas,
     reply: &StepReply,
-) -> Result<(), NoMemory>
+) -> Pushed
     ensures { OnOk result (string_bytes text.new ≡ string_bytes text.old ++ spec.reply_text schemas.now reply.now) }
 {
     match reply {
@@ -46,12 +46,7 @@ pub(crate) fn push_reply(
 }
 
 // The reply to a shared call.
-fn push_call(
-    alloc: Global,
-    text: &mut String,
-    schemas: &Schemas,
-    reply: &Reply,
-) -> Result<(), NoMemory>
+fn push_call(alloc: Global, text: &mut String, schemas: &Schemas, reply: &Reply) -> Pushed
     ensures { OnOk result (string_bytes text.new ≡ string_bytes text.old ++ spec.call_text schemas.now reply.now) }
 {
     match reply {
@@ -87,7 +82,7 @@ fn push_call(
     }
 }
 
-fn push_begun(text: &mut String, commit: u64, on: Option<u64>) -> Result<(), NoMemory>
+fn push_begun(text: &mut String, commit: u64, on: Option<u64>) -> Pushed
     ensures { OnOk result (string_bytes text.new ≡ string_bytes text.old ++ (codes "begun" ++ (spec.number commit ++ spec.on_text on))) }
 {
     push_numbered(text, "begun", commit)?;
@@ -98,24 +93,14 @@ fn push_begun(text: &mut String, commit: u64, on: Option<u64>) -> Result<(), NoM
 }
 
 // A shared call that was refused, and why.
-fn push_refused(
-    alloc: Global,
-    text: &mut String,
-    schema: &Schema,
-    fault: &CallFault,
-) -> Result<(), NoMemory>
+fn push_refused(alloc: Global, text: &mut String, schema: &Schema, fault: &CallFault) -> Pushed
     ensures { OnOk result (string_bytes text.new ≡ string_bytes text.old ++ (codes "refused " ++ spec.fault_text schema.now fault.now)) }
 {
     text.push_str("refused ")?;
     push_fault(alloc, text, schema, fault)
 }
 
-fn push_fault(
-    alloc: Global,
-    text: &mut String,
-    schema: &Schema,
-    fault: &CallFault,
-) -> Result<(), NoMemory>
+fn push_fault(alloc: Global, text: &mut String, schema: &Schema, fault: &CallFault) -> Pushed
     ensures { OnOk result (string_bytes text.new ≡ string_bytes text.old ++ spec.fault_text schema.now fault.now) }
 {
     match fault {
@@ -148,12 +133,7 @@ fn push_fault(
     }
 }
 
-fn push_outcome(
-    alloc: Global,
-    text: &mut String,
-    schema: &Schema,
-    outcome: &Outcome,
-) -> Result<(), NoMemory>
+fn push_outcome(alloc: Global, text: &mut String, schema: &Schema, outcome: &Outcome) -> Pushed
     ensures { OnOk result (string_bytes text.new ≡ string_bytes text.old ++ spec.outcome_text schema.now outcome.now) }
 {
     match outcome {
@@ -187,7 +167,7 @@ fn push_decided(
     schema: &Schema,
     receipt: u64,
     outcome: &Outcome,
-) -> Result<(), NoMemory>
+) -> Pushed
     ensures { OnOk result (string_bytes text.new ≡ string_bytes text.old ++ (codes "decided" ++ (spec.number receipt ++ (32 ∷ spec.outcome_text schema.now outcome.now)))) }
 {
     push_numbered(text, "decided", receipt)?;
@@ -200,7 +180,7 @@ fn push_refusal(
     text: &mut String,
     schemas: &Schemas,
     refusal: &StepRefusal,
-) -> Result<(), NoMemory>
+) -> Pushed
     ensures { OnOk result (string_bytes text.new ≡ string_bytes text.old ++ spec.refusal_text schemas.now refusal.now) }
 {
     match refusal {
@@ -224,13 +204,7 @@ fn push_refusal(
 }
 
 // The rows of a read at a path.
-fn push_rows(
-    alloc: Global,
-    text: &mut String,
-    schema: &Schema,
-    path: &Path,
-    rows: &Rows,
-) -> Result<(), NoMemory>
+fn push_rows(alloc: Global, text: &mut String, schema: &Schema, path: &Path, rows: &Rows) -> Pushed
     ensures { OnOk result (string_bytes text.new ≡ string_bytes text.old ++ spec.rows_text schema.now path.now rows.now) }
 {
     match (path.steps(), rows.items()) {

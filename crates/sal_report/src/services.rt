@@ -12,7 +12,7 @@ ghost use Rattle.sal_script.specs.Report as spec;
 
 use crate::arrays::{Item, push_array};
 use crate::breaches::push_node;
-use crate::pieces::{push_data, push_numbered, push_path};
+use crate::pieces::{Pushed, push_data, push_numbered, push_path};
 use sal_note::Note;
 use sal_rows::Rows;
 use sal_rpc::Request;
@@ -22,7 +22,7 @@ use sal_types::{NoMemory, Path, PathFault, Step, push_word};
 use std::alloc::Global;
 
 // The domain that is mounted at a path, if any.
-pub(crate) fn push_mount(text: &mut String, mount: Option<u32>) -> Result<(), NoMemory>
+pub(crate) fn push_mount(text: &mut String, mount: Option<u32>) -> Pushed
     ensures { OnOk result (string_bytes text.new ≡ string_bytes text.old ++ spec.mount_text mount) }
 {
     match mount {
@@ -39,7 +39,7 @@ pub(crate) fn push_request(
     text: &mut String,
     schema: &Schema,
     request: &Request,
-) -> Result<(), NoMemory>
+) -> Pushed
     ensures { OnOk result (string_bytes text.new ≡ string_bytes text.old ++ spec.request_text schema.now request.now) }
 {
     push_numbered(text, "request", request.id)?;
@@ -58,7 +58,7 @@ pub(crate) fn push_output(
     schema: &Schema,
     rpc: u32,
     rows: &Rows,
-) -> Result<(), NoMemory>
+) -> Pushed
     ensures { OnOk result (string_bytes text.new ≡ string_bytes text.old ++ spec.output_text schema.now rpc rows.now) }
 {
     text.push_str("output ")?;
@@ -67,12 +67,7 @@ pub(crate) fn push_output(
 }
 
 // A space, and the path of a context or a dash.
-fn push_context(
-    alloc: Global,
-    text: &mut String,
-    schema: &Schema,
-    context: &Option<Path>,
-) -> Result<(), NoMemory>
+fn push_context(alloc: Global, text: &mut String, schema: &Schema, context: &Option<Path>) -> Pushed
     ensures { OnOk result (string_bytes text.new ≡ string_bytes text.old ++ spec.context_text schema.now context.now) }
 {
     match context {
@@ -112,13 +107,7 @@ fn number_at(numbers: &[u32], place: usize) -> Option<u32>
 // ---- data
 
 // The rows below an input, an output or a notification.
-fn push_message(
-    alloc: Global,
-    text: &mut String,
-    schema: &Schema,
-    node: u32,
-    rows: &Rows,
-) -> Result<(), NoMemory>
+fn push_message(alloc: Global, text: &mut String, schema: &Schema, node: u32, rows: &Rows) -> Pushed
     ensures { OnOk result (string_bytes text.new ≡ string_bytes text.old ++ compact_text (message_data schema.now node rows.now)) }
 {
     let path = top_path(alloc, node)?;
@@ -145,7 +134,7 @@ pub(crate) fn push_notes(
     text: &mut String,
     schema: &Schema,
     notes: &[Note],
-) -> Result<(), NoMemory>
+) -> Pushed
     ensures { OnOk result (string_bytes text.new ≡ string_bytes text.old ++ (codes "notes " ++ compact_text (notes_data schema.now notes.now))) }
 {
     text.push_str("notes ")?;
@@ -156,7 +145,7 @@ pub(crate) fn push_notes(
 impl Item for Note {
     ghost json = { note_data };
 
-    fn push_item(&self, alloc: Global, text: &mut String, schema: &Schema) -> Result<(), NoMemory> {
+    fn push_item(&self, alloc: Global, text: &mut String, schema: &Schema) -> Pushed {
         text.push('[')?;
         push_name(alloc, text, schema, self.note)?;
         text.push(',')?;
@@ -166,7 +155,7 @@ impl Item for Note {
 }
 
 // The name of a node with that of its module, as a JSON text.
-fn push_name(alloc: Global, text: &mut String, schema: &Schema, node: u32) -> Result<(), NoMemory>
+fn push_name(alloc: Global, text: &mut String, schema: &Schema, node: u32) -> Pushed
     ensures { OnOk result (string_bytes text.new ≡ string_bytes text.old ++ compact_text (string (node_text schema.now node))) }
 {
     let mut name = String::new(alloc);

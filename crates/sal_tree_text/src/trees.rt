@@ -24,6 +24,9 @@ use std::alloc::Global;
 /// The largest number of levels of nodes of a tree: a path has at most 32 steps.
 const MAX_LEVELS: u32 = 32;
 
+/// The result of a function that appends to the text.
+type Pushed = Result<(), NoMemory>;
+
 /// The input for writing trees: a schema.
 ///
 /// Below, `levels` is the largest number of levels of nodes, and `is_later` says whether an item precedes in the same brackets.
@@ -35,7 +38,7 @@ struct TreeWriter<'a> {
 
 impl<'a> TreeWriter<'a> {
     /// The value of a leaf, or of an entry of a leaf-list.
-    fn push_scalar(&self, text: &mut String, node: u32, value: &Value) -> Result<(), NoMemory>
+    fn push_scalar(&self, text: &mut String, node: u32, value: &Value) -> Pushed
         ensures { OnOk result (string_bytes text.new ≡ string_bytes text.old ++ compact_text (scalar_json self.now.schema.now node value.now)) }
     {
         let json = write_leaf(self.alloc, self.schema, node, value)?;
@@ -43,7 +46,7 @@ impl<'a> TreeWriter<'a> {
     }
 
     /// The value of a leaf, from its cell.
-    fn push_leaf(&self, text: &mut String, node: u32, cell: Option<&Cell>) -> Result<(), NoMemory>
+    fn push_leaf(&self, text: &mut String, node: u32, cell: Option<&Cell>) -> Pushed
         ensures { OnOk result (string_bytes text.new ≡ string_bytes text.old ++ compact_text (spec.leaf_value self.now.schema.now node (option_map (λ c. c.now) cell.entry))) }
     {
         match cell {
@@ -54,13 +57,7 @@ impl<'a> TreeWriter<'a> {
 
     /// The value of a node with this tree.
     #[cycle(tree)]
-    fn push_node(
-        &self,
-        text: &mut String,
-        levels: u32,
-        node: u32,
-        tree: &Node,
-    ) -> Result<(), NoMemory>
+    fn push_node(&self, text: &mut String, levels: u32, node: u32, tree: &Node) -> Pushed
         ensures { OnOk result (string_bytes text.new ≡ string_bytes text.old ++ compact_text (spec.node_value self.now.schema.now levels node tree.now)) }
     {
         if levels == 0 {
@@ -86,7 +83,7 @@ impl<'a> TreeWriter<'a> {
         levels: u32,
         parent: Option<u32>,
         tree: &Node,
-    ) -> Result<(), NoMemory>
+    ) -> Pushed
         ensures { OnOk result (string_bytes text.new ≡ string_bytes text.old ++ compact_text (spec.members_value self.now.schema.now parent (spec.node_value self.now.schema.now levels) tree.now)) }
     {
         let children = tree.children(self.alloc)?;
@@ -105,7 +102,7 @@ impl<'a> TreeWriter<'a> {
         levels: u32,
         parent: Option<u32>,
         children: &[&Child],
-    ) -> Result<(), NoMemory>
+    ) -> Pushed
         ensures { OnOk result (string_bytes text.new ++ 125 ∷ [] ≡ string_bytes text.old ++ members_text false (spec.members_in self.now.schema.now parent (spec.node_value self.now.schema.now levels) (seen children.now))) }
     {
         let mut is_later = false;
@@ -141,13 +138,7 @@ impl<'a> TreeWriter<'a> {
 
     /// The values of the entries of a list.
     #[cycle(tree)]
-    fn push_entries(
-        &self,
-        text: &mut String,
-        levels: u32,
-        node: u32,
-        tree: &Node,
-    ) -> Result<(), NoMemory>
+    fn push_entries(&self, text: &mut String, levels: u32, node: u32, tree: &Node) -> Pushed
         ensures { OnOk result (string_bytes text.new ≡ string_bytes text.old ++ compact_text (array (items_of (spec.entries_values self.now.schema.now node (spec.node_value self.now.schema.now levels) (pairs tree.now.kids))))) }
     {
         let children = tree.children(self.alloc)?;
@@ -183,7 +174,7 @@ impl<'a> TreeWriter<'a> {
     }
 
     /// The values of the entries of a leaf-list.
-    fn push_items(&self, text: &mut String, node: u32, tree: &Node) -> Result<(), NoMemory>
+    fn push_items(&self, text: &mut String, node: u32, tree: &Node) -> Pushed
         ensures { OnOk result (string_bytes text.new ≡ string_bytes text.old ++ compact_text (array (items_of (spec.items_values self.now.schema.now node (pairs tree.now.kids))))) }
     {
         let children = tree.children(self.alloc)?;
@@ -217,7 +208,7 @@ impl<'a> TreeWriter<'a> {
     }
 }
 
-fn push_comma(text: &mut String, is_later: bool) -> Result<(), NoMemory>
+fn push_comma(text: &mut String, is_later: bool) -> Pushed
     ensures { OnOk result (string_bytes text.new ≡ string_bytes text.old ++ comma_if is_later) }
 {
     if is_later {

@@ -11,37 +11,37 @@ use Rattle.sal_hub.proofs.mount_calls.mount.Goals as goal
 
 pub set_live-requires-clause-there : goal.set_live-requires-clause-there
 set_live-requires-clause-there c =
-    mount_low c.args.journal.now c.add_mount.new.journal c.args.pipeline.now c.requires.kept c.args.mounts.now c.add_mount.new.mounts c.requires.mounts c.args.client c.args.path.now c.args.device c.in-Ok.ensures.made
+    mount_low c.args.journal.now c.add_mount.new.journal c.args.pipeline.now c.requires.service.kept c.args.mounts.now c.add_mount.new.mounts c.requires.service.served c.args.ask.now.client c.args.ask.now.path.now c.args.ask.now.device c.in-Ok.ensures.made
 
-pub returns-in-Ok-clause-kept : goal.returns-in-Ok-clause-kept
-returns-in-Ok-clause-kept c =
-    mount_kept c.args.journal.now c.add_mount.new.journal c.args.pipeline.now c.requires.kept c.args.mounts.now c.add_mount.new.mounts c.requires.mounts c.args.client c.args.path.now c.args.device c.in-Ok.ensures.made
-    c.in-Ok.ensures.entry c.set_live.new.self c.set_live.ensures.kept c.set_live.ensures.queue
-
-pub returns-in-Ok-clause-mounts : goal.returns-in-Ok-clause-mounts
-returns-in-Ok-clause-mounts c =
-    mount_mounts c.args.journal.now c.add_mount.new.journal c.args.pipeline.now c.requires.kept c.args.mounts.now c.add_mount.new.mounts c.requires.mounts c.args.client c.args.path.now c.args.device c.in-Ok.ensures.made
-    c.in-Ok.ensures.entry c.set_live.new.self c.set_live.ensures.kept c.set_live.ensures.queue
+pub returns-in-Ok-clause-service : goal.returns-in-Ok-clause-service
+returns-in-Ok-clause-service c = record {
+  kept =
+      mount_kept c.args.journal.now c.add_mount.new.journal c.args.pipeline.now c.requires.service.kept c.args.mounts.now c.add_mount.new.mounts c.requires.service.served c.args.ask.now.client c.args.ask.now.path.now c.args.ask.now.device c.in-Ok.ensures.made
+      c.in-Ok.ensures.entry c.set_live.new.self c.set_live.ensures.kept c.set_live.ensures.queue;
+  served =
+      mount_mounts c.args.journal.now c.add_mount.new.journal c.args.pipeline.now c.requires.service.kept c.args.mounts.now c.add_mount.new.mounts c.requires.service.served c.args.ask.now.client c.args.ask.now.path.now c.args.ask.now.device c.in-Ok.ensures.made
+      c.in-Ok.ensures.entry c.set_live.new.self c.set_live.ensures.kept c.set_live.ensures.queue;
+}
 
 pub returns-in-Ok-clause-answer : goal.returns-in-Ok-clause-answer
 returns-in-Ok-clause-answer c =
-    mount_answer c.args.journal.now c.add_mount.new.journal c.args.pipeline.now c.requires.kept c.args.mounts.now c.add_mount.new.mounts c.requires.mounts c.args.client c.args.path.now c.args.device c.in-Ok.ensures.made
+    mount_answer c.args.journal.now c.add_mount.new.journal c.args.pipeline.now c.requires.service.kept c.args.mounts.now c.add_mount.new.mounts c.requires.service.served c.args.ask.now.client c.args.ask.now.path.now c.args.ask.now.device c.in-Ok.ensures.made
     c.in-Ok.ensures.entry c.set_live.new.self c.set_live.ensures.kept c.set_live.ensures.queue c.requires.room
 
-pub returns-in-Err-clause-kept : goal.returns-in-Err-clause-kept
-returns-in-Err-clause-kept c =
-    refused_kept c.args.journal.now c.add_mount.new.journal c.args.pipeline.now c.requires.kept c.args.mounts.now c.add_mount.new.mounts c.requires.mounts c.args.client (Mount c.args.path.now c.args.device) (asked.Mount c.args.path.now c.args.device) refl
-    c.in-Err.fault c.in-Err.ensures.made c.in-Err.ensures.entry
-
-pub returns-in-Err-clause-mounts : goal.returns-in-Err-clause-mounts
-returns-in-Err-clause-mounts c =
-    refused_mounts c.args.journal.now c.add_mount.new.journal c.args.pipeline.now c.requires.kept c.args.mounts.now c.add_mount.new.mounts c.requires.mounts c.args.client (Mount c.args.path.now c.args.device) (asked.Mount c.args.path.now c.args.device) refl
-    c.in-Err.fault c.in-Err.ensures.made c.in-Err.ensures.entry
+pub returns-in-Err-clause-service : goal.returns-in-Err-clause-service
+returns-in-Err-clause-service c = record {
+  kept =
+      refused_kept c.args.journal.now c.add_mount.new.journal c.args.pipeline.now c.requires.service.kept c.args.mounts.now c.add_mount.new.mounts c.requires.service.served c.args.ask.now.client (Mount c.args.ask.now.path.now c.args.ask.now.device) (asked.Mount c.args.ask.now.path.now c.args.ask.now.device) refl
+      c.in-Err.fault c.in-Err.ensures.made c.in-Err.ensures.entry;
+  served =
+      refused_mounts c.args.journal.now c.add_mount.new.journal c.args.pipeline.now c.requires.service.kept c.args.mounts.now c.add_mount.new.mounts c.requires.service.served c.args.ask.now.client (Mount c.args.ask.now.path.now c.args.ask.now.device) (asked.Mount c.args.ask.now.path.now c.args.ask.now.device) refl
+      c.in-Err.fault c.in-Err.ensures.made c.in-Err.ensures.entry;
+}
 
 pub returns-in-Err-clause-answer : goal.returns-in-Err-clause-answer
 returns-in-Err-clause-answer c =
     let j = c.args.journal.now in
     let p = c.args.pipeline.now in
-    subst (λ (f : CallFault). Fails (known_of j p) (known_of c.add_mount.new.journal p) (entry_of (known_of j p) c.args.client (Mount c.args.path.now c.args.device)) f) (sym c.mount_fault.ensures)
-    (refused_answer j c.add_mount.new.journal p c.requires.kept c.args.mounts.now c.add_mount.new.mounts c.requires.mounts c.args.client (Mount c.args.path.now c.args.device) (asked.Mount c.args.path.now c.args.device) refl
+    subst (λ (f : CallFault). Fails (known_of j p) (known_of c.add_mount.new.journal p) (entry_of (known_of j p) c.args.ask.now.client (Mount c.args.ask.now.path.now c.args.ask.now.device)) f) (sym c.mount_fault.ensures)
+    (refused_answer j c.add_mount.new.journal p c.requires.service.kept c.args.mounts.now c.add_mount.new.mounts c.requires.service.served c.args.ask.now.client (Mount c.args.ask.now.path.now c.args.ask.now.device) (asked.Mount c.args.ask.now.path.now c.args.ask.now.device) refl
     c.requires.room c.in-Err.fault c.in-Err.ensures.made c.in-Err.ensures.entry)

@@ -11,37 +11,37 @@ use Rattle.sal_hub.proofs.mount_calls.unmount.Goals as goal
 
 pub set_live-requires-clause-there : goal.set_live-requires-clause-there
 set_live-requires-clause-there c =
-    unmount_low c.args.journal.now c.add_unmount.new.journal c.args.pipeline.now c.requires.kept c.args.mounts.now c.add_unmount.new.mounts c.requires.mounts c.args.client c.args.domain c.in-Ok.ensures.made
+    unmount_low c.args.journal.now c.add_unmount.new.journal c.args.pipeline.now c.requires.service.kept c.args.mounts.now c.add_unmount.new.mounts c.requires.service.served c.args.client c.args.domain c.in-Ok.ensures.made
 
-pub returns-in-Ok-clause-kept : goal.returns-in-Ok-clause-kept
-returns-in-Ok-clause-kept c =
-    unmount_kept c.args.journal.now c.add_unmount.new.journal c.args.pipeline.now c.requires.kept c.args.mounts.now c.add_unmount.new.mounts c.requires.mounts c.args.client c.args.domain c.in-Ok.ensures.made
-    c.in-Ok.ensures.entry c.set_live.new.self c.set_live.ensures.kept c.set_live.ensures.queue
-
-pub returns-in-Ok-clause-mounts : goal.returns-in-Ok-clause-mounts
-returns-in-Ok-clause-mounts c =
-    unmount_mounts c.args.journal.now c.add_unmount.new.journal c.args.pipeline.now c.requires.kept c.args.mounts.now c.add_unmount.new.mounts c.requires.mounts c.args.client c.args.domain c.in-Ok.ensures.made
-    c.in-Ok.ensures.entry c.set_live.new.self c.set_live.ensures.kept c.set_live.ensures.queue
+pub returns-in-Ok-clause-service : goal.returns-in-Ok-clause-service
+returns-in-Ok-clause-service c = record {
+  kept =
+      unmount_kept c.args.journal.now c.add_unmount.new.journal c.args.pipeline.now c.requires.service.kept c.args.mounts.now c.add_unmount.new.mounts c.requires.service.served c.args.client c.args.domain c.in-Ok.ensures.made
+      c.in-Ok.ensures.entry c.set_live.new.self c.set_live.ensures.kept c.set_live.ensures.queue;
+  served =
+      unmount_mounts c.args.journal.now c.add_unmount.new.journal c.args.pipeline.now c.requires.service.kept c.args.mounts.now c.add_unmount.new.mounts c.requires.service.served c.args.client c.args.domain c.in-Ok.ensures.made
+      c.in-Ok.ensures.entry c.set_live.new.self c.set_live.ensures.kept c.set_live.ensures.queue;
+}
 
 pub returns-in-Ok-clause-answer : goal.returns-in-Ok-clause-answer
 returns-in-Ok-clause-answer c =
-    unmount_answer c.args.journal.now c.add_unmount.new.journal c.args.pipeline.now c.requires.kept c.args.mounts.now c.add_unmount.new.mounts c.requires.mounts c.args.client c.args.domain c.in-Ok.ensures.made
+    unmount_answer c.args.journal.now c.add_unmount.new.journal c.args.pipeline.now c.requires.service.kept c.args.mounts.now c.add_unmount.new.mounts c.requires.service.served c.args.client c.args.domain c.in-Ok.ensures.made
     c.in-Ok.ensures.entry c.set_live.new.self c.set_live.ensures.kept c.set_live.ensures.queue c.requires.room
 
-pub returns-in-Err-clause-kept : goal.returns-in-Err-clause-kept
-returns-in-Err-clause-kept c =
-    refused_kept c.args.journal.now c.add_unmount.new.journal c.args.pipeline.now c.requires.kept c.args.mounts.now c.add_unmount.new.mounts c.requires.mounts c.args.client (Unmount c.args.domain) (asked.Unmount c.args.domain) refl
-    c.in-Err.fault c.in-Err.ensures.made c.in-Err.ensures.entry
-
-pub returns-in-Err-clause-mounts : goal.returns-in-Err-clause-mounts
-returns-in-Err-clause-mounts c =
-    refused_mounts c.args.journal.now c.add_unmount.new.journal c.args.pipeline.now c.requires.kept c.args.mounts.now c.add_unmount.new.mounts c.requires.mounts c.args.client (Unmount c.args.domain) (asked.Unmount c.args.domain) refl
-    c.in-Err.fault c.in-Err.ensures.made c.in-Err.ensures.entry
+pub returns-in-Err-clause-service : goal.returns-in-Err-clause-service
+returns-in-Err-clause-service c = record {
+  kept =
+      refused_kept c.args.journal.now c.add_unmount.new.journal c.args.pipeline.now c.requires.service.kept c.args.mounts.now c.add_unmount.new.mounts c.requires.service.served c.args.client (Unmount c.args.domain) (asked.Unmount c.args.domain) refl
+      c.in-Err.fault c.in-Err.ensures.made c.in-Err.ensures.entry;
+  served =
+      refused_mounts c.args.journal.now c.add_unmount.new.journal c.args.pipeline.now c.requires.service.kept c.args.mounts.now c.add_unmount.new.mounts c.requires.service.served c.args.client (Unmount c.args.domain) (asked.Unmount c.args.domain) refl
+      c.in-Err.fault c.in-Err.ensures.made c.in-Err.ensures.entry;
+}
 
 pub returns-in-Err-clause-answer : goal.returns-in-Err-clause-answer
 returns-in-Err-clause-answer c =
     let j = c.args.journal.now in
     let p = c.args.pipeline.now in
     subst (λ (f : CallFault). Fails (known_of j p) (known_of c.add_unmount.new.journal p) (entry_of (known_of j p) c.args.client (Unmount c.args.domain)) f) (sym c.mount_fault.ensures)
-    (refused_answer j c.add_unmount.new.journal p c.requires.kept c.args.mounts.now c.add_unmount.new.mounts c.requires.mounts c.args.client (Unmount c.args.domain) (asked.Unmount c.args.domain) refl
+    (refused_answer j c.add_unmount.new.journal p c.requires.service.kept c.args.mounts.now c.add_unmount.new.mounts c.requires.service.served c.args.client (Unmount c.args.domain) (asked.Unmount c.args.domain) refl
     c.requires.room c.in-Err.fault c.in-Err.ensures.made c.in-Err.ensures.entry)

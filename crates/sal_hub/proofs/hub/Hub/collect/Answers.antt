@@ -8,5 +8,5 @@ use Rattle.sal_hub.proofs.hub.Hub.collect.Goals as goal
 pub invariant_of-self : goal.invariant_of-self
 invariant_of-self c =
     let done = c.collect.ensures in
-    whole_routed c.self.invariant done.kept c.args.client (Collect c.args.id.number) (λ m. refl)
-    c.self.inside.services.router (collect_reply c.args.id.rpc) c.collect.result refl refl refl done.routed done.answer
+    whole_routed c.self.invariant done.service.kept c.args.client (Collect c.args.id.number) (λ m. refl)
+    c.self.inside.services.router (collect_reply c.args.id.rpc) c.collect.result refl refl refl done.service.served done.answer

@@ -9,5 +9,5 @@ use Rattle.sal_hub.proofs.hub.Hub.invoke.Goals as goal
 pub invariant_of-self : goal.invariant_of-self
 invariant_of-self c =
     let done = c.invoke.ensures in
-    whole_routed c.self.invariant done.kept c.args.client (Invoke c.args.rpc c.args.context c.args.input) (λ m. refl)
-    c.invoke.new.router (λ (id : CallId). CallMade id.number) c.invoke.result refl refl refl done.routed done.answer
+    whole_routed c.self.invariant done.service.kept c.args.client (Invoke c.args.rpc c.args.context c.args.input) (λ m. refl)
+    c.invoke.new.router (λ (id : CallId). CallMade id.number) c.invoke.result refl refl refl done.service.served done.answer

@@ -8,5 +8,5 @@ use Rattle.sal_hub.proofs.hub.Hub.mount.Goals as goal
 pub invariant_of-self : goal.invariant_of-self
 invariant_of-self c =
     let done = c.mount.ensures in
-    whole_mounted c.self.invariant done.kept c.args.client (Mount c.args.path.now c.args.device) (λ m. refl)
-    c.mount.new.mounts (λ u. Accepted) c.mount.result refl refl refl done.mounts done.answer
+    whole_mounted c.self.invariant done.service.kept c.args.client (Mount c.args.path.now c.args.device) (λ m. refl)
+    c.mount.new.mounts (λ u. Accepted) c.mount.result refl refl refl done.service.served done.answer

@@ -8,5 +8,5 @@ use Rattle.sal_hub.proofs.hub.Hub.next_call.Goals as goal
 pub invariant_of-self : goal.invariant_of-self
 invariant_of-self c =
     let done = c.next_call.ensures in
-    whole_routed c.self.invariant done.kept c.args.client NextCall (λ m. refl)
-    c.next_call.new.router request_reply c.next_call.result refl refl refl done.routed done.answer
+    whole_routed c.self.invariant done.service.kept c.args.client NextCall (λ m. refl)
+    c.next_call.new.router request_reply c.next_call.result refl refl refl done.service.served done.answer

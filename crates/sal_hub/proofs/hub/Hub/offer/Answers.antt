@@ -8,5 +8,5 @@ use Rattle.sal_hub.proofs.hub.Hub.offer.Goals as goal
 pub invariant_of-self : goal.invariant_of-self
 invariant_of-self c =
     let done = c.offer.ensures in
-    whole_noted c.self.invariant done.kept c.args.client (Offer c.args.note c.args.rows) (λ m. refl)
-    c.offer.new.notes (λ count. Offered count) c.offer.result refl refl refl done.noted done.answer
+    whole_noted c.self.invariant done.service.kept c.args.client (Offer c.args.note c.args.rows) (λ m. refl)
+    c.offer.new.notes (λ count. Offered count) c.offer.result refl refl refl done.service.served done.answer

@@ -8,5 +8,5 @@ use Rattle.sal_hub.proofs.hub.Hub.take_notes.Goals as goal
 pub invariant_of-self : goal.invariant_of-self
 invariant_of-self c =
     let done = c.take_notes.ensures in
-    whole_noted c.self.invariant done.kept c.args.client TakeNotes (λ m. refl)
-    c.take_notes.new.notes Notes c.take_notes.result refl refl refl done.noted done.answer
+    whole_noted c.self.invariant done.service.kept c.args.client TakeNotes (λ m. refl)
+    c.take_notes.new.notes Notes c.take_notes.result refl refl refl done.service.served done.answer

@@ -8,5 +8,5 @@ use Rattle.sal_hub.proofs.hub.Hub.unmount.Goals as goal
 pub invariant_of-self : goal.invariant_of-self
 invariant_of-self c =
     let done = c.unmount.ensures in
-    whole_mounted c.self.invariant done.kept c.args.client (Unmount c.args.domain) (λ m. refl)
-    c.unmount.new.mounts (λ u. Accepted) c.unmount.result refl refl refl done.mounts done.answer
+    whole_mounted c.self.invariant done.service.kept c.args.client (Unmount c.args.domain) (λ m. refl)
+    c.unmount.new.mounts (λ u. Accepted) c.unmount.result refl refl refl done.service.served done.answer

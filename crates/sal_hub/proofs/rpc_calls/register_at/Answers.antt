@@ -1,5 +1,5 @@
 -- The router has the call that begins or ends the registration.
-use Rattle.std.proofs.Common.{sym, subst}
+use Rattle.std.proofs.Common.{false, sym, subst}
 use Rattle.sal_rpc.specs.declared.call.RpcReply.TheVariants as given
 use Rattle.sal_rpc.specs.Answers.{Answers}
 use Rattle.sal_hub.specs.Routed.{registering}

@@ -1,5 +1,6 @@
 //! The shared calls of a client for its transactions and receipts.
-ghost use Rattle.std.specs.Prelude.{◌≡◌, Err, IsSome};
+ghost use Rattle.std.specs.Prelude.{◌≡◌, Err, Some, IfOk, IsSome, OnOk};
+ghost use Rattle.sal_script.specs.Play.{set_slot};
 ghost use Rattle.sal_hub.specs.Tokens.{begun_of};
 ghost use Rattle.sal_client.specs.Answers.{IsAnswer};
 ghost use Rattle.sal_client.specs.Leaving.{Leaves};
@@ -8,13 +9,14 @@ ghost use Rattle.sal_client.specs.declared.wish.Wish.TheVariants.{Begin, Submit,
 
 use crate::answers::{answer_to, settled};
 use crate::client::{ClientState, Standing};
-use crate::slots::{fill_slot, filled, take_slot};
+use crate::slots::{Slots, fill_slot, filled, take_slot};
 use crate::wish::{CallResult, RunFault};
 use sal_history::Reply;
 use sal_hub::{Hub, laws};
 use sal_rows::{CallFault, Mode};
 use sal_script::StepReply;
 use sal_tx::Tx;
+use sal_types::NoMemory;
 use std::alloc::Global;
 
 /// The reply to a call.
@@ -35,8 +37,8 @@ pub(crate) fn refused_call(fault: CallFault) -> CallResult
     }
 }
 
-/// The reply to a done begin.
-pub(crate) fn begun(tx: &Tx) -> Reply
+// The reply to a done begin.
+fn begun(tx: &Tx) -> Reply
     ensures { result ≡ Reply.Begun (begun_of tx.now).base_commit (begun_of tx.now).on }
 {
     match tx {
@@ -49,6 +51,16 @@ pub(crate) fn begun(tx: &Tx) -> Reply
             on: tx.on(),
         },
     }
+}
+
+/// Puts the transaction that begins into the slot, and returns the reply.
+pub(crate) fn fill_begun(slots: &mut Slots<Tx>, slot: u8, tx: Tx) -> Result<StepReply, NoMemory>
+    ensures reply { IfOk result (λ r. r ≡ StepReply.Called (Reply.Begun (begun_of tx).base_commit (begun_of tx).on)) }
+    ensures slot { OnOk result (held slots.new ≡ set_slot slot (Some tx) (held slots.old)) }
+{
+    let reply = begun(&tx);
+    fill_slot(slots, slot, tx)?;
+    Ok(called(reply))
 }
 
 impl ClientState {
@@ -68,11 +80,7 @@ impl ClientState {
     {
         laws::tokens_last();
         match hub.begin(alloc, self.number, domain, mode) {
-            Ok(tx) => {
-                let reply = begun(&tx);
-                fill_slot(&mut self.transactions, slot, tx)?;
-                Ok(called(reply))
-            }
+            Ok(tx) => Ok(fill_begun(&mut self.transactions, slot, tx)?),
             Err(fault) => refused_call(fault),
         }
     }

@@ -5,7 +5,7 @@ ghost use Rattle.sal_client.specs.Slots.{held};
 ghost use Rattle.sal_client.specs.declared.wish.Wish.TheVariants.{OpenChain, ChainBegin, CloseChain};
 
 use crate::answers::{accepted, answer_to};
-use crate::calls::{begun, called, refused_call};
+use crate::calls::{called, fill_begun, refused_call};
 use crate::client::ClientState;
 use crate::slots::{fill_slot, filled};
 use crate::wish::CallResult;
@@ -55,11 +55,7 @@ impl ClientState {
         laws::tokens_last();
         let chain = filled(&self.chains, from);
         match hub.chain_begin(alloc, self.number, chain, mode) {
-            Ok(tx) => {
-                let reply = begun(&tx);
-                fill_slot(&mut self.transactions, slot, tx)?;
-                Ok(called(reply))
-            }
+            Ok(tx) => Ok(fill_begun(&mut self.transactions, slot, tx)?),
             Err(fault) => refused_call(fault),
         }
     }

@@ -1,8 +1,7 @@
 -- The transaction that begins is in its slot.
-use Rattle.std.proofs.Common.{◌∙◌, None, ap, refl, sym}
+use Rattle.std.proofs.Common.{None, refl, sym}
 use Rattle.sal_history.specs.History.{history, is_live}
 use Rattle.sal_history.specs.declared.call.Call.TheVariants.{Begin as BeginCall}
-use Rattle.sal_script.specs.declared.reply.StepReply.TheVariants.{Called}
 use Rattle.sal_hub.specs.Tokens.{base_of, begun_of}
 use Rattle.sal_client.specs.declared.wish.Wish.TheVariants.{Begin}
 use Rattle.sal_client.specs.Slots.{held}
@@ -14,8 +13,8 @@ use Rattle.sal_client.proofs.Answering.{begun_by, in_world, kept_begun}
 use Rattle.sal_client.proofs.Leaving.{leaves_made, leaves_refused, sound_behind}
 use Rattle.sal_client.proofs.client.ClientState.begin.Goals as goal
 
-pub returns-in_ok-fill_slot-in-Ok : goal.returns-in_ok-fill_slot-in-Ok
-returns-in_ok-fill_slot-in-Ok c =
+pub returns-in_ok-fill_begun-in-Ok : goal.returns-in_ok-fill_begun-in-Ok
+returns-in_ok-fill_begun-in-Ok c =
     let old = c.args.self.now in
     let known = c.args.hub.now in
     let tx = c.in-Ok.tx in
@@ -30,9 +29,9 @@ returns-in_ok-fill_slot-in-Ok c =
       within = in_world made (sym c.in-Ok.ensures.fresh.domain) (live_within known.world (history known.world known.log) c.args.domain live);
     } in
     let was = sound_behind wish known c.begin.new.self old call (last.begun, last.given, last.opened, last.called) refl _ made c.requires.sound in
-    leaves_made wish known c.begin.new.self old call _ (record { number = refl; replies = refl }) (λ tables read. refl) _ c.called.result made (c.called.ensures ∙ ap Called c.begun-reply.ensures)
-    (kept_begun known c.args.slot c.args.domain None c.args.mode tx (client_of old) _ fresh (begun_by c.args.domain (begun_of tx) (base_of tx) made c.in-Ok.ensures.token fresh.place fresh.domain) (seen-filled open_of (held old.transactions) (held c.fill_slot.new.slots) c.args.slot tx c.in_ok-fill_slot-in-Ok.ensures))
-    (IsSound-filled c.begin.new.self old _ c.args.slot tx was own c.in_ok-fill_slot-in-Ok.ensures refl refl (refl, refl, refl))
+    leaves_made wish known c.begin.new.self old call _ (record { number = refl; replies = refl }) (λ tables read. refl) _ c.in_ok-fill_begun-in-Ok.field-0 made c.in_ok-fill_begun-in-Ok.ensures.reply
+    (kept_begun known c.args.slot c.args.domain None c.args.mode tx (client_of old) _ fresh (begun_by c.args.domain (begun_of tx) (base_of tx) made c.in-Ok.ensures.token fresh.place fresh.domain) (seen-filled open_of (held old.transactions) (held c.fill_begun.new.slots) c.args.slot tx c.in_ok-fill_begun-in-Ok.ensures.slot))
+    (IsSound-filled c.begin.new.self old _ c.args.slot tx was own c.in_ok-fill_begun-in-Ok.ensures.slot refl refl (refl, refl, refl))
 
 pub returns-in-Err : goal.returns-in-Err
 returns-in-Err c =

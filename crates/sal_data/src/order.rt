@@ -97,7 +97,7 @@ fn settled(alloc: Global, rows: Vec<Row>) -> Result<Rows, NoMemory>
 const MOVES: usize = 4;
 
 /// Moves the row at the place before those that it precedes, at most so many places. The moves that are left.
-fn sunk(rows: &mut Vec<Row>, place: usize, moves: usize) -> usize
+fn insert_tail(rows: &mut Vec<Row>, place: usize, moves: usize) -> usize
     requires { place < length rows.old.items }
     ensures order { spec.in_order rows.new.items ≡ spec.in_order rows.old.items }
     ensures len { length rows.new.items ≡ length rows.old.items }
@@ -114,12 +114,12 @@ fn sunk(rows: &mut Vec<Row>, place: usize, moves: usize) -> usize
 }
 
 /// Moves each row before those that it precedes, as long as there are moves. Rows with one path keep their order.
-fn nudge(rows: &mut Vec<Row>)
+fn partial_insertion_sort(rows: &mut Vec<Row>)
     ensures { spec.in_order rows.new.items ≡ spec.in_order rows.old.items }
 {
     let mut moves = rows.len().saturating_mul(MOVES);
     for place in 1..rows.len() {
-        moves = sunk(rows, place, moves);
+        moves = insert_tail(rows, place, moves);
     }
 }
 
@@ -142,6 +142,6 @@ pub(crate) fn in_order(alloc: Global, mut rows: Vec<Row>) -> Result<Rows, NoMemo
     if rises(&rows) {
         return Ok(tree_of(rows));
     }
-    nudge(&mut rows);
+    partial_insertion_sort(&mut rows);
     sorted(alloc, rows)
 }

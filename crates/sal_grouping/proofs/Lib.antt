@@ -12,3 +12,4 @@ pub mod DataParents
 pub mod KeyMaps
 pub mod Parts
 pub mod TreesFrom
+pub mod FirstGrown

@@ -1,5 +1,5 @@
 -- Rounds of augments, from one augment to the next.
-use Rattle.std.proofs.Common.{◌≡◌, ℕ, zero, suc, ◌+◌, ◌-◌, ◌<◌, ◌≤◌, ◌==◌, true, false, List, [], ◌∷◌, fold, length, take, drop, get_or, Option, Some, None, if◌then◌else◌, refl, sym, ap, ◌∙◌, inl, inr, arith}
+use Rattle.std.proofs.Common.{◌≡◌, ℕ, zero, suc, ◌+◌, ◌-◌, ◌<◌, ◌≤◌, ◌==◌, true, false, List, [], ◌∷◌, fold, length, take, drop, get_or, Option, Some, None, if◌then◌else◌, refl, sym, ap, subst, ◌∙◌, inl, inr, arith}
 use Rattle.std.specs.Prelude.{option_and_then}
 use Rattle.std.specs.List.{slice_get}
 use Rattle.std.proofs.lemmas.Bool.{cases_Bool}
@@ -13,6 +13,7 @@ use Rattle.sal_grouping.specs.Growth.{grown, seeds_in}
 use Rattle.sal_grouping.specs.Augments.{Progress, kind_of, can_hold, has_nodes, follow, carried_to, carried_at, carried, after_try, tried, round, rounds}
 use Rattle.sal_grouping.specs.Groupings.{path_of}
 use Rattle.sal_grouping.proofs.FrameLists.{grown-length}
+use Rattle.sal_grouping.proofs.IndexLists.{is-same}
 
 module _ (stmts : List Stmt) (rows : List Row) (named : List (Option ℕ)) where
   carried-to : (owner k : ℕ) (forest : List Node) (target : ℕ) (kind : Option Keyword) (f : List Node) → carried_to rows named owner k forest target kind ≡ Some f → length forest ≤ length f
@@ -87,3 +88,20 @@ module _ (stmts : List Stmt) (rows : List Row) (named : List (Option ℕ)) where
     | inl holds ↦ rw holds past
     | inr fails ↦ rw fails (omega (arith, past, rounds-length n (round stmts rows named now)))
   ])
+
+  -- ---- n rounds, of which some are left
+
+  module _ (n count left : ℕ) (start now : Progress) (same : n ≡ count) (is : rounds count stmts rows named start ≡ rounds left stmts rows named now) where
+    all : rounds n stmts rows named start ≡ rounds left stmts rows named now
+    all = ap (λ k. rounds k stmts rows named start) same ∙ is
+
+    pub left-past : 0 < left → 65536 < length (round stmts rows named now).0 → 65536 < length (rounds n stmts rows named start).0
+    left-past some past =
+        let P : Progress → Type 0 = λ p. 65536 < length p.0 in
+        subst P (sym all) (rounds-past left now some past)
+
+    pub left-end : 0 < left → length (round stmts rows named now).1 ≡ length now.1 → round stmts rows named now ≡ rounds n stmts rows named start
+    left-end some e = sym (rounds-end left now some (is-same (length (round stmts rows named now).1) (length now.1) e)) ∙ sym all
+
+    pub left-none : left ≡ 0 → now ≡ rounds n stmts rows named start
+    left-none none = sym (all ∙ ap (λ k. rounds k stmts rows named now) none ∙ rounds-none now)

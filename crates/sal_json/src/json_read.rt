@@ -1,19 +1,15 @@
 //! Atoms of types that are not unions, from JSON values.
-ghost use Rattle.std.specs.Prelude.{◌≡◌, ◌<◌, IfOk, IsTrue, length};
+ghost use Rattle.std.specs.Prelude.{◌≡◌, IfOk};
 ghost use Rattle.sal_types.specs.Reading.{GivesUnless};
 ghost use Rattle.sal_restrict.specs.declared.yang_type.YangType.{out-YangType};
-ghost use Rattle.sal_schema.specs.Valid.{is_good_layer};
 ghost use Rattle.serde_json.specs.View.{view, items_view};
 ghost use Rattle.sal_json.specs.Numerals.{whole_atom};
-ghost use Rattle.sal_json.specs.Patterns.{plain_searched};
 ghost use Rattle.sal_json.specs.Read as spec;
 
 use crate::fault::ScalarFault;
 use crate::numerals::whole_atom;
-use crate::texts_read::{is_own_text, text_atom};
-use crate::whole::Whole;
+use crate::plain_type::PlainType;
 use sal_restrict::{Ranges, YangType};
-use sal_schema::Schema;
 use sal_types::{Atom, NoMemory};
 use serde_json::Value as Json;
 use std::alloc::Global;
@@ -75,65 +71,45 @@ fn nulls_atom(json: &Json) -> Result<Atom, ScalarFault>
     }
 }
 
-/// The atom that a JSON text denotes.
-fn string_atom(
-    alloc: Global,
-    schema: &Schema,
-    module: u32,
-    ty: &YangType,
-    wholes: &[Whole],
-    json: &Json,
-) -> Result<Atom, ScalarFault>
-    requires known { «module» < length schema.now.modules }
-    requires good { IsTrue (is_good_layer schema.now (out-YangType ty.now)) }
-    requires compiled { wholes.now ≡ plain_searched ty.now }
-    ensures { GivesUnless ScalarFault.NoMemory (λ atom. atom) result (spec.of_string (spec.text_atom schema.now «module» (out-YangType ty.now)) (view json.now)) }
-{
-    match json.as_str() {
-        Some(text) => text_atom(alloc, schema, module, ty, wholes, text),
-        None => Err(ScalarFault::WrongKind),
+impl<'a> PlainType<'a> {
+    /// The atom that a JSON text denotes.
+    fn string_atom(&self, alloc: Global, json: &Json) -> Result<Atom, ScalarFault>
+        ensures { GivesUnless ScalarFault.NoMemory (λ atom. atom) result (spec.of_string (spec.text_atom self.now.schema.now self.now.«module» (out-YangType self.now.ty.now)) (view json.now)) }
+    {
+        match json.as_str() {
+            Some(text) => self.text_atom(alloc, text),
+            None => Err(ScalarFault::WrongKind),
+        }
     }
-}
 
-/// The atom that a JSON value denotes in a type that is no union, where the module is the one of the leaf.
-pub(crate) fn json_atom(
-    alloc: Global,
-    schema: &Schema,
-    module: u32,
-    ty: &YangType,
-    wholes: &[Whole],
-    json: &Json,
-) -> Result<Atom, ScalarFault>
-    requires known { «module» < length schema.now.modules }
-    requires good { IsTrue (is_good_layer schema.now (out-YangType ty.now)) }
-    requires compiled { wholes.now ≡ plain_searched ty.now }
-    ensures { GivesUnless ScalarFault.NoMemory (λ atom. atom) result (spec.json_atom schema.now «module» (out-YangType ty.now) (view json.now)) }
-{
-    match ty {
-        YangType::Int {
-            bits,
-            signed,
-            range,
-        } if *bits != 64 => number_atom(*signed, range, json),
-        YangType::Bool => boolean_atom(json),
-        YangType::Empty => nulls_atom(json),
-        _ => string_atom(alloc, schema, module, ty, wholes, json),
+    /// The atom that a JSON value denotes.
+    pub(crate) fn json_atom(&self, alloc: Global, json: &Json) -> Result<Atom, ScalarFault>
+        ensures { GivesUnless ScalarFault.NoMemory (λ atom. atom) result (spec.json_atom self.now.schema.now self.now.«module» (out-YangType self.now.ty.now) (view json.now)) }
+    {
+        match self.ty {
+            YangType::Int {
+                bits,
+                signed,
+                range,
+            } if *bits != 64 => number_atom(*signed, range, json),
+            YangType::Bool => boolean_atom(json),
+            YangType::Empty => nulls_atom(json),
+            _ => self.string_atom(alloc, json),
+        }
     }
-}
 
-/// Whether the JSON value is the one that is written for the atom.
-pub(crate) fn is_own_json(
-    alloc: Global,
-    schema: &Schema,
-    module: u32,
-    ty: &YangType,
-    json: &Json,
-    atom: &Atom,
-) -> Result<bool, NoMemory>
-    ensures { IfOk result (λ own. own ≡ spec.is_own_json schema.now «module» (out-YangType ty.now) (view json.now) atom.now) }
-{
-    match json.as_str() {
-        Some(text) => is_own_text(alloc, schema, module, ty, text, atom),
-        None => Ok(true),
+    /// Whether the JSON value is the one that is written for the atom.
+    pub(crate) fn is_own_json(
+        &self,
+        alloc: Global,
+        json: &Json,
+        atom: &Atom,
+    ) -> Result<bool, NoMemory>
+        ensures { IfOk result (λ own. own ≡ spec.is_own_json self.now.schema.now self.now.«module» (out-YangType self.now.ty.now) (view json.now) atom.now) }
+    {
+        match json.as_str() {
+            Some(text) => self.is_own_text(alloc, text, atom),
+            None => Ok(true),
+        }
     }
 }

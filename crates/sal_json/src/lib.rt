@@ -31,6 +31,7 @@ pub mod laws;
 mod named;
 mod numerals;
 mod patterns;
+mod plain_type;
 mod read;
 mod texts;
 mod texts_read;

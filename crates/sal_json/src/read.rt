@@ -9,67 +9,47 @@ ghost use Rattle.sal_json.specs.Patterns.{patterns_of, plain_searched, type_sear
 ghost use Rattle.sal_json.specs.Read as spec;
 
 use crate::fault::ScalarFault;
-use crate::json_read::{is_own_json, json_atom};
 use crate::patterns::{Patterns, Wholes};
-use crate::texts_read::{is_own_text, text_atom};
-use crate::whole::Whole;
+use crate::plain_type::PlainType;
 use sal_restrict::YangType;
 use sal_schema::Schema;
 use sal_types::{Atom, NoMemory, Value};
 use serde_json::Value as Json;
 use std::alloc::Global;
 
-/// The value of a text for a member of a union, if the text is in the form in which that value is written.
-fn own_text(
-    alloc: Global,
-    schema: &Schema,
-    module: u32,
-    member: &YangType,
-    wholes: &[Whole],
-    text: &str,
-) -> Result<Option<Atom>, NoMemory>
-    requires known { «module» < length schema.now.modules }
-    requires good { IsTrue (is_good_layer schema.now (out-YangType member.now)) }
-    requires compiled { wholes.now ≡ plain_searched member.now }
-    ensures { IfOk result (λ taken. taken ≡ spec.own_text schema.now «module» text.now member.now) }
-{
-    match text_atom(alloc, schema, module, member, wholes, text) {
-        Ok(atom) => {
-            if is_own_text(alloc, schema, module, member, text, &atom)? {
-                Ok(Some(atom))
-            } else {
-                Ok(None)
+impl<'a> PlainType<'a> {
+    /// The value of a text for a member of a union, if the text is in the form in which that value is written.
+    fn own_text(&self, alloc: Global, text: &str) -> Result<Option<Atom>, NoMemory>
+        ensures { IfOk result (λ taken. taken ≡ spec.own_text self.now.schema.now self.now.«module» text.now self.now.ty.now) }
+    {
+        match self.text_atom(alloc, text) {
+            Ok(atom) => {
+                if self.is_own_text(alloc, text, &atom)? {
+                    Ok(Some(atom))
+                } else {
+                    Ok(None)
+                }
             }
+            Err(ScalarFault::NoMemory) => Err(NoMemory),
+            Err(_) => Ok(None),
         }
-        Err(ScalarFault::NoMemory) => Err(NoMemory),
-        Err(_) => Ok(None),
     }
-}
 
-/// The value of a JSON value for a member of a union, if it is in the form in which that value is written.
-fn own_json(
-    alloc: Global,
-    schema: &Schema,
-    module: u32,
-    member: &YangType,
-    wholes: &[Whole],
-    json: &Json,
-) -> Result<Option<Atom>, NoMemory>
-    requires known { «module» < length schema.now.modules }
-    requires good { IsTrue (is_good_layer schema.now (out-YangType member.now)) }
-    requires compiled { wholes.now ≡ plain_searched member.now }
-    ensures { IfOk result (λ taken. taken ≡ spec.own_json schema.now «module» (view json.now) member.now) }
-{
-    match json_atom(alloc, schema, module, member, wholes, json) {
-        Ok(atom) => {
-            if is_own_json(alloc, schema, module, member, json, &atom)? {
-                Ok(Some(atom))
-            } else {
-                Ok(None)
+    /// The value of a JSON value for a member of a union, if it is in the form in which that value is written.
+    fn own_json(&self, alloc: Global, json: &Json) -> Result<Option<Atom>, NoMemory>
+        ensures { IfOk result (λ taken. taken ≡ spec.own_json self.now.schema.now self.now.«module» (view json.now) self.now.ty.now) }
+    {
+        match self.json_atom(alloc, json) {
+            Ok(atom) => {
+                if self.is_own_json(alloc, json, &atom)? {
+                    Ok(Some(atom))
+                } else {
+                    Ok(None)
+                }
             }
+            Err(ScalarFault::NoMemory) => Err(NoMemory),
+            Err(_) => Ok(None),
         }
-        Err(ScalarFault::NoMemory) => Err(NoMemory),
-        Err(_) => Ok(None),
     }
 }
 
@@ -83,50 +63,6 @@ fn member_value(place: usize, atom: Atom) -> Value
     }
 }
 
-fn union_text(
-    alloc: Global,
-    schema: &Schema,
-    module: u32,
-    members: &[YangType],
-    wholes: &[Wholes],
-    text: &str,
-) -> Result<Value, ScalarFault>
-    requires known { «module» < length schema.now.modules }
-    requires good { IsTrue (list_all (λ member. is_good_layer schema.now (out-YangType member)) members.now) }
-    requires compiled { wholes.now ≡ map plain_searched members.now }
-    ensures { GivesUnless ScalarFault.NoMemory (λ value. value) result (spec.first_own (spec.own_text schema.now «module» text.now) 0 members.now) }
-{
-    for i in 0..members.len() {
-        match own_text(alloc, schema, module, &members[i], wholes[i].items(), text)? {
-            Some(atom) => return Ok(member_value(i, atom)),
-            None => {}
-        }
-    }
-    Err(ScalarFault::WrongKind)
-}
-
-fn union_json(
-    alloc: Global,
-    schema: &Schema,
-    module: u32,
-    members: &[YangType],
-    wholes: &[Wholes],
-    json: &Json,
-) -> Result<Value, ScalarFault>
-    requires known { «module» < length schema.now.modules }
-    requires good { IsTrue (list_all (λ member. is_good_layer schema.now (out-YangType member)) members.now) }
-    requires compiled { wholes.now ≡ map plain_searched members.now }
-    ensures { GivesUnless ScalarFault.NoMemory (λ value. value) result (spec.first_own (spec.own_json schema.now «module» (view json.now)) 0 members.now) }
-{
-    for i in 0..members.len() {
-        match own_json(alloc, schema, module, &members[i], wholes[i].items(), json)? {
-            Some(atom) => return Ok(member_value(i, atom)),
-            None => {}
-        }
-    }
-    Err(ScalarFault::WrongKind)
-}
-
 /// A value of a type that is no union.
 fn plain(read: Result<Atom, ScalarFault>) -> Result<Value, ScalarFault>
     ensures { result ≡ spec.plain read }
@@ -137,45 +73,131 @@ fn plain(read: Result<Atom, ScalarFault>) -> Result<Value, ScalarFault>
     }
 }
 
-fn type_text(
-    alloc: Global,
-    schema: &Schema,
+/// The members of a union, with their schema, the module of the leaf and their compiled patterns.
+#[derive(Drop)]
+struct Members<'a> {
+    schema: &'a Schema,
     module: u32,
-    ty: &YangType,
-    wholes: &[Wholes],
-    text: &str,
-) -> Result<Value, ScalarFault>
-    requires known { «module» < length schema.now.modules }
-    requires good { IsTrue (is_good_type schema.now ty.now) }
-    requires compiled { wholes.now ≡ type_searched ty.now }
-    ensures { GivesUnless ScalarFault.NoMemory (λ value. value) result (spec.type_text_scalar schema.now ty.now «module» text.now) }
-{
-    match ty {
-        YangType::Union { members } => {
-            union_text(alloc, schema, module, members.items(), wholes, text)
+    types: &'a [YangType],
+    wholes: &'a [Wholes],
+    ghost known: { «module» < length schema.now.modules },
+    ghost good: { IsTrue (list_all (λ member. is_good_layer schema.now (out-YangType member)) types.now) },
+    ghost compiled: { wholes.now ≡ map plain_searched types.now },
+}
+
+impl<'a> Members<'a> {
+    /// The value of a text in the first member in whose form it is.
+    fn text_value(&self, alloc: Global, text: &str) -> Result<Value, ScalarFault>
+        ensures { GivesUnless ScalarFault.NoMemory (λ value. value) result (spec.first_own (spec.own_text self.now.schema.now self.now.«module» text.now) 0 self.now.types.now) }
+    {
+        let (schema, module) = (self.schema, self.module);
+        for i in 0..self.types.len() {
+            let ty = &self.types[i];
+            let wholes = self.wholes[i].items();
+            let member = PlainType {
+                schema,
+                module,
+                ty,
+                wholes,
+            };
+            match member.own_text(alloc, text)? {
+                Some(atom) => return Ok(member_value(i, atom)),
+                None => {}
+            }
         }
-        _ => plain(text_atom(alloc, schema, module, ty, wholes[0].items(), text)),
+        Err(ScalarFault::WrongKind)
+    }
+
+    /// The value of a JSON value in the first member in whose form it is.
+    fn json_value(&self, alloc: Global, json: &Json) -> Result<Value, ScalarFault>
+        ensures { GivesUnless ScalarFault.NoMemory (λ value. value) result (spec.first_own (spec.own_json self.now.schema.now self.now.«module» (view json.now)) 0 self.now.types.now) }
+    {
+        let (schema, module) = (self.schema, self.module);
+        for i in 0..self.types.len() {
+            let ty = &self.types[i];
+            let wholes = self.wholes[i].items();
+            let member = PlainType {
+                schema,
+                module,
+                ty,
+                wholes,
+            };
+            match member.own_json(alloc, json)? {
+                Some(atom) => return Ok(member_value(i, atom)),
+                None => {}
+            }
+        }
+        Err(ScalarFault::WrongKind)
     }
 }
 
-fn type_json(
-    alloc: Global,
-    schema: &Schema,
+/// A type with its schema, the module of its leaf and its compiled patterns.
+#[derive(Drop)]
+struct AnyType<'a> {
+    schema: &'a Schema,
     module: u32,
-    ty: &YangType,
-    wholes: &[Wholes],
-    json: &Json,
-) -> Result<Value, ScalarFault>
-    requires known { «module» < length schema.now.modules }
-    requires good { IsTrue (is_good_type schema.now ty.now) }
-    requires compiled { wholes.now ≡ type_searched ty.now }
-    ensures { GivesUnless ScalarFault.NoMemory (λ value. value) result (spec.type_scalar schema.now ty.now «module» (view json.now)) }
-{
-    match ty {
-        YangType::Union { members } => {
-            union_json(alloc, schema, module, members.items(), wholes, json)
+    ty: &'a YangType,
+    wholes: &'a [Wholes],
+    ghost known: { «module» < length schema.now.modules },
+    ghost good: { IsTrue (is_good_type schema.now ty.now) },
+    ghost compiled: { wholes.now ≡ type_searched ty.now },
+}
+
+impl<'a> AnyType<'a> {
+    fn text_value(&self, alloc: Global, text: &str) -> Result<Value, ScalarFault>
+        ensures { GivesUnless ScalarFault.NoMemory (λ value. value) result (spec.type_text_scalar self.now.schema.now self.now.ty.now self.now.«module» text.now) }
+    {
+        let (schema, module, wholes) = (self.schema, self.module, self.wholes);
+        match self.ty {
+            YangType::Union { members } => {
+                let types = members.items();
+                let union = Members {
+                    schema,
+                    module,
+                    types,
+                    wholes,
+                };
+                union.text_value(alloc, text)
+            }
+            ty => {
+                let wholes = wholes[0].items();
+                let layer = PlainType {
+                    schema,
+                    module,
+                    ty,
+                    wholes,
+                };
+                plain(layer.text_atom(alloc, text))
+            }
         }
-        _ => plain(json_atom(alloc, schema, module, ty, wholes[0].items(), json)),
+    }
+
+    fn json_value(&self, alloc: Global, json: &Json) -> Result<Value, ScalarFault>
+        ensures { GivesUnless ScalarFault.NoMemory (λ value. value) result (spec.type_scalar self.now.schema.now self.now.ty.now self.now.«module» (view json.now)) }
+    {
+        let (schema, module, wholes) = (self.schema, self.module, self.wholes);
+        match self.ty {
+            YangType::Union { members } => {
+                let types = members.items();
+                let union = Members {
+                    schema,
+                    module,
+                    types,
+                    wholes,
+                };
+                union.json_value(alloc, json)
+            }
+            ty => {
+                let wholes = wholes[0].items();
+                let layer = PlainType {
+                    schema,
+                    module,
+                    ty,
+                    wholes,
+                };
+                plain(layer.json_atom(alloc, json))
+            }
+        }
     }
 }
 
@@ -215,8 +237,13 @@ pub fn read_scalar(
     requires compiled { patterns.now ≡ patterns_of schema.now }
     ensures { GivesUnless ScalarFault.NoMemory (λ value. value) result (spec.scalar_of schema.now ty «module» (view json.now)) }
 {
-    let wholes = wholes_of(schema, patterns, ty);
-    type_json(alloc, schema, module, type_of(schema, ty), wholes, json)
+    let any = AnyType {
+        schema,
+        module,
+        ty: type_of(schema, ty),
+        wholes: wholes_of(schema, patterns, ty),
+    };
+    any.json_value(alloc, json)
 }
 
 /// The value that a key text denotes in the type, where `module` is the one of its leaf.
@@ -235,6 +262,11 @@ pub fn read_text(
     requires compiled { patterns.now ≡ patterns_of schema.now }
     ensures { GivesUnless ScalarFault.NoMemory (λ value. value) result (spec.text_scalar_of schema.now ty «module» text.now) }
 {
-    let wholes = wholes_of(schema, patterns, ty);
-    type_text(alloc, schema, module, type_of(schema, ty), wholes, text)
+    let any = AnyType {
+        schema,
+        module,
+        ty: type_of(schema, ty),
+        wholes: wholes_of(schema, patterns, ty),
+    };
+    any.text_value(alloc, text)
 }

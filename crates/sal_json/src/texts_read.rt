@@ -1,21 +1,20 @@
 //! Atoms of types that are not unions, from texts.
-ghost use Rattle.std.specs.Prelude.{◌≡◌, ◌<◌, IfOk, IsTrue, length, map, option_map};
+ghost use Rattle.std.specs.Prelude.{◌≡◌, IfOk, map, option_map};
 ghost use Rattle.sal_types.specs.Reading.{GivesUnless};
 ghost use Rattle.sal_restrict.specs.declared.yang_type.YangType.{out-YangType};
-ghost use Rattle.sal_schema.specs.Valid.{is_good_layer};
-ghost use Rattle.sal_json.specs.Patterns.{searched, plain_searched};
+ghost use Rattle.sal_json.specs.Patterns.{searched};
 ghost use Rattle.sal_json.specs.Read as spec;
 
 use crate::fault::ScalarFault;
 use crate::named::{bits_atom, enum_atom, identity_atom};
 use crate::numerals::{dec_atom, int_atom};
 use crate::patterns::all_pass;
+use crate::plain_type::PlainType;
 use crate::whole::Whole;
 use crate::written::atom_text;
 use base64::DecodeAllocError;
 use base64::engine::general_purpose::STANDARD;
 use sal_restrict::{Pattern, Ranges, YangType};
-use sal_schema::Schema;
 use sal_types::{Atom, NoMemory, Seq, Str, characters};
 use std::alloc::Global;
 
@@ -93,55 +92,46 @@ fn empty_atom(text: &str) -> Result<Atom, ScalarFault>
     }
 }
 
-/// The atom that a text denotes in a type that is no union, where the module is the one of the leaf.
-pub(crate) fn text_atom(
-    alloc: Global,
-    schema: &Schema,
-    module: u32,
-    ty: &YangType,
-    wholes: &[Whole],
-    text: &str,
-) -> Result<Atom, ScalarFault>
-    requires known { «module» < length schema.now.modules }
-    requires good { IsTrue (is_good_layer schema.now (out-YangType ty.now)) }
-    requires compiled { wholes.now ≡ plain_searched ty.now }
-    ensures { GivesUnless ScalarFault.NoMemory (λ atom. atom) result (spec.text_atom schema.now «module» (out-YangType ty.now) text.now) }
-{
-    match ty {
-        YangType::Int {
-            bits,
-            signed,
-            range,
-        } => int_atom(*bits, *signed, range, text.as_bytes()),
-        YangType::Dec { digits, range } => dec_atom(*digits, range, text.as_bytes()),
-        YangType::Text { length, patterns } => {
-            string_atom(alloc, length, patterns.items(), wholes, text)
+impl<'a> PlainType<'a> {
+    /// The atom that a text denotes.
+    pub(crate) fn text_atom(&self, alloc: Global, text: &str) -> Result<Atom, ScalarFault>
+        ensures { GivesUnless ScalarFault.NoMemory (λ atom. atom) result (spec.text_atom self.now.schema.now self.now.«module» (out-YangType self.now.ty.now) text.now) }
+    {
+        let (schema, wholes) = (self.schema, self.wholes);
+        match self.ty {
+            YangType::Int {
+                bits,
+                signed,
+                range,
+            } => int_atom(*bits, *signed, range, text.as_bytes()),
+            YangType::Dec { digits, range } => dec_atom(*digits, range, text.as_bytes()),
+            YangType::Text { length, patterns } => {
+                string_atom(alloc, length, patterns.items(), wholes, text)
+            }
+            YangType::Bool => bool_atom(text),
+            YangType::Enum { names, places } => {
+                enum_atom(names.items(), places.items(), text.as_bytes())
+            }
+            YangType::Bits { names, positions } => {
+                bits_atom(names.items(), positions.items(), text.as_bytes())
+            }
+            YangType::Bin { length } => binary_atom(alloc, length, text),
+            YangType::Ident { bases } => identity_atom(schema, self.module, bases.items(), text),
+            YangType::Empty => empty_atom(text),
+            _ => Err(ScalarFault::WrongKind),
         }
-        YangType::Bool => bool_atom(text),
-        YangType::Enum { names, places } => {
-            enum_atom(names.items(), places.items(), text.as_bytes())
-        }
-        YangType::Bits { names, positions } => {
-            bits_atom(names.items(), positions.items(), text.as_bytes())
-        }
-        YangType::Bin { length } => binary_atom(alloc, length, text),
-        YangType::Ident { bases } => identity_atom(schema, module, bases.items(), text),
-        YangType::Empty => empty_atom(text),
-        _ => Err(ScalarFault::WrongKind),
     }
-}
 
-/// Whether the text is the one that is written for the atom.
-pub(crate) fn is_own_text(
-    alloc: Global,
-    schema: &Schema,
-    module: u32,
-    ty: &YangType,
-    text: &str,
-    atom: &Atom,
-) -> Result<bool, NoMemory>
-    ensures { IfOk result (λ own. own ≡ spec.is_own_text schema.now «module» (out-YangType ty.now) text.now atom.now) }
-{
-    let written = atom_text(alloc, schema, module, ty, atom)?;
-    Ok(text == written.as_str())
+    /// Whether the text is the one that is written for the atom.
+    pub(crate) fn is_own_text(
+        &self,
+        alloc: Global,
+        text: &str,
+        atom: &Atom,
+    ) -> Result<bool, NoMemory>
+        ensures { IfOk result (λ own. own ≡ spec.is_own_text self.now.schema.now self.now.«module» (out-YangType self.now.ty.now) text.now atom.now) }
+    {
+        let written = atom_text(alloc, self.schema, self.module, self.ty, atom)?;
+        Ok(text == written.as_str())
+    }
 }

@@ -17,6 +17,14 @@ unfolding statements
 statements_at whole inner start zero t h = absurd (omega arith)
 statements_at whole inner start (suc n) t h = let less : suc n - 1 ≡ n = omega arith in rw less refl
 
+-- and the first token of it
+pub statements_here : (whole : Text) (inner : Text → Read Stmt) (start n : ℕ) (t here : Text) → 0 < n → skip whole t ≡ Ok here
+    → statements whole inner start n t ≡ (
+    if is_empty here then Err (Unclosed start)
+    else if first here == 125 then Ok ([], drop 1 here)
+    else (inner here >>= λ one. with_front (one.0 ∷ []) (statements whole inner start (n - 1) one.1)))
+statements_here whole inner start n t here some is = rw is at (statements_at whole inner start n t some)
+
 statement-zero : (whole : Text) (t : Text)
     → statement whole 0 t ≡ (header whole t >>= λ head.
     if first head.1 == 59 then Ok (made (place whole t) head.0 [], drop 1 head.1)

@@ -77,3 +77,12 @@ pub joined_at : (whole : Text) (statement n : ℕ) (t : Text) → 0 < n
 unfolding joined
 joined_at whole statement zero t h = absurd (omega arith)
 joined_at whole statement (suc n) t h = let less : suc n - 1 ≡ n = omega arith in rw less refl
+
+-- and the first token of it
+pub joined_here : (whole : Text) (statement n : ℕ) (t here : Text) → 0 < n → within whole statement t ≡ Ok here
+    → joined whole statement n t ≡ (
+    if not (first here == 43) then Ok ([], here)
+    else (within whole statement (drop 1 here) >>= λ next.
+    if not (is_quote next) then Err (BadToken (place whole next))
+    else (quoted whole next >>= λ part. with_front part.0 (joined whole statement (n - 1) part.1))))
+joined_here whole statement n t here some is = rw is at (joined_at whole statement n t some)

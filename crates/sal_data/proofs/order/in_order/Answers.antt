@@ -11,4 +11,4 @@ returns-then-rises c =
     c.tree_of.ensures ∙ sym (in_order-rising c.args.rows.items rises)
 
 pub returns : goal.returns
-returns c = subst (λ (ordered : List Row). IfOk c.sorted.result (λ tree. tree ≡ ordered)) c.nudge.ensures c.sorted.ensures
+returns c = subst (λ (ordered : List Row). IfOk c.sorted.result (λ tree. tree ≡ ordered)) c.partial_insertion_sort.ensures c.sorted.ensures

@@ -1,31 +1,16 @@
 -- If the names have no fault, the rest is the growth.
-use Rattle.std.proofs.Common.{◌≡◌, ◌∙◌, ℕ, List, None, Option, map, sym, ap, rules}
-use Rattle.std.specs.Prelude.{Ok}
-use Rattle.sal_types.specs.Reading.{◌>>=◌}
-use Rattle.sal_module.specs.declared.fault.Found.{Found}
+use Rattle.std.proofs.Common.{◌≡◌, ◌∙◌, List, None, ap, rules}
 use Rattle.sal_module.specs.Faults.{least}
 use Rattle.sal_grouping.specs.declared.rows.Row.{Row}
 use Rattle.sal_grouping.specs.Rows.{rows_of}
-use Rattle.sal_grouping.specs.Groupings.{named_of}
 use Rattle.sal_grouping.specs.Names.{name_faults}
-use Rattle.sal_grouping.specs.Augments.{target_faults}
-use Rattle.sal_grouping.specs.Children.{child_faults}
-use Rattle.sal_grouping.specs.Expand.{judged, unless_any, sized, built, branch_of, expand}
-use Rattle.sal_grouping.specs.Grown.{grown}
+use Rattle.sal_grouping.proofs.FirstGrown.{first-tree}
 use Rattle.sal_grouping.proofs.whole.expand_tables.Goals as goal
 
 pub returns : goal.returns
 returns c =
     let stmts = c.args.modules.now in
-    let rows : List Row = rows_of stmts in
-    let named : List (Option ℕ) = named_of stmts rows in
-    let found : c.in_ok-found.field-0 ≡ least None (name_faults stmts rows) = c.in_ok-found.ensures ∙ ap (λ (rs : List Row). least None (name_faults stmts rs)) c.requires.rows in
-    let none : least None (name_faults stmts rows) ≡ None = search rules in
-    let whole : grown rows (built stmts rows named) ≡ expand stmts =
-    ap (λ (first : Option Found). judged (built stmts rows named) first >>= sized >>= (λ p. unless_any (target_faults rows p.1) p.0)
-    >>= (λ forest. unless_any (child_faults rows forest) forest) >>= (λ forest. Ok (map (branch_of rows) forest))) (sym none) in
-    let planned : c.in_ok-plan.plan.rows.items ≡ rows = c.in_ok-plan.ensures.planned.rows in
-    let uses : c.in_ok-plan.plan.named.items ≡ named = c.in_ok-plan.ensures.planned.named in
-    let here : grown c.in_ok-plan.plan.rows.items (built stmts c.in_ok-plan.plan.rows.items c.in_ok-plan.plan.named.items) ≡ expand stmts =
-    ap (λ (rs : List Row). grown rs (built stmts rs c.in_ok-plan.plan.named.items)) planned ∙ ap (λ (us : List (Option ℕ)). grown rows (built stmts rows us)) uses ∙ whole in
+    let found : c.in_ok-found.field-0 ≡ least None (name_faults stmts (rows_of stmts)) = c.in_ok-found.ensures ∙ ap (λ (rs : List Row). least None (name_faults stmts rs)) c.requires.rows in
+    let none : least None (name_faults stmts (rows_of stmts)) ≡ None = search rules in
+    let here = first-tree stmts none c.in_ok-plan.plan.rows.items c.in_ok-plan.plan.named.items c.in_ok-plan.ensures.planned.rows c.in_ok-plan.ensures.planned.named in
     rw (← here) c.grown.ensures

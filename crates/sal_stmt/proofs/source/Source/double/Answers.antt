@@ -12,9 +12,8 @@ returns-then-c-eq34-clause-value c =
     let s = c.args.s.now in
     let i = c.bytes.i in
     let whole = c.args.self.now.text.now in
-    let start = c.args.start in
-    let step = double_at whole s start i (omega (arith, c.as_bytes-bytes.ensures.len)) in
-    let done : double whole start (drop i s) ≡ Ok ([], drop (i + 1) s) = grind (arith, nat_tests, common_steps) in
+    let step = double_at whole s c.args.start i (omega (arith, c.as_bytes-bytes.ensures.len)) in
+    let done : double whole c.args.start (drop i s) ≡ Ok ([], drop (i + 1) s) = grind (arith, nat_tests, common_steps) in
     c.bytes.invariant.1 ∙ ap (with_front (take i s)) done ∙ grind (arith, common_steps)
 
 pub returns-then-is_control-clause-value : goal.returns-then-is_control-clause-value
@@ -22,9 +21,8 @@ returns-then-is_control-clause-value c _ =
     let s = c.args.s.now in
     let i = c.bytes.i in
     let whole = c.args.self.now.text.now in
-    let start = c.args.start in
-    let step = double_at whole s start i (omega (arith, c.as_bytes-bytes.ensures.len)) in
-    let done : double whole start (drop i s) ≡ Err (BadToken c.place.result) = grind (arith, nat_tests, common_steps) in
+    let step = double_at whole s c.args.start i (omega (arith, c.as_bytes-bytes.ensures.len)) in
+    let done : double whole c.args.start (drop i s) ≡ Err (BadToken c.place.result) = grind (arith, nat_tests, common_steps) in
     c.bytes.invariant.1 ∙ ap (with_front (take i s)) done
 
 pub bytes-preserved-then-c-ne92 : goal.bytes-preserved-then-c-ne92
@@ -32,20 +30,18 @@ bytes-preserved-then-c-ne92 c =
     let s = c.args.s.now in
     let i = c.bytes.i in
     let whole = c.args.self.now.text.now in
-    let start = c.args.start in
-    let step = double_at whole s start i (omega (arith, c.as_bytes-bytes.ensures.len)) in
-    let done : double whole start (drop i s) ≡ with_front (get_or s i 0 ∷ []) (double whole start (drop (i + 1) s)) = grind (arith, nat_tests, common_steps) in
-    (omega (arith, c.as_bytes-bytes.ensures.len), c.bytes.invariant.1 ∙ ap (with_front (take i s)) done ∙ with_front-with_front (take i s) _ _ ∙ ap (λ t. with_front t (double whole start (drop (i + 1) s))) (take_one s i (omega (arith, c.as_bytes-bytes.ensures.len))))
+    let step = double_at whole s c.args.start i (omega (arith, c.as_bytes-bytes.ensures.len)) in
+    let done : double whole c.args.start (drop i s) ≡ with_front (get_or s i 0 ∷ []) (double whole c.args.start (drop (i + 1) s)) = grind (arith, nat_tests, common_steps) in
+    (omega (arith, c.as_bytes-bytes.ensures.len), c.bytes.invariant.1 ∙ ap (with_front (take i s)) done ∙ with_front-with_front (take i s) _ _ ∙ ap (λ t. with_front t (double whole c.args.start (drop (i + 1) s))) (take_one s i (omega (arith, c.as_bytes-bytes.ensures.len))))
 
 pub returns-then-i-bytes-clause-value : goal.returns-then-i-bytes-clause-value
 returns-then-i-bytes-clause-value c _ =
     let s = c.args.s.now in
     let i = c.bytes.i in
     let whole = c.args.self.now.text.now in
-    let start = c.args.start in
-    let step = double_at whole s start i (omega (arith, c.as_bytes-bytes.ensures.len)) in
+    let step = double_at whole s c.args.start i (omega (arith, c.as_bytes-bytes.ensures.len)) in
     let none : length (drop (i + 1) s) ≡ 0 = grind (arith, common_steps) in
-    let done : double whole start (drop i s) ≡ Err (Unclosed start) = grind (arith, nat_tests, common_steps) in
+    let done : double whole c.args.start (drop i s) ≡ Err (Unclosed c.args.start) = grind (arith, nat_tests, common_steps) in
     c.bytes.invariant.1 ∙ ap (with_front (take i s)) done
 
 pub returns-then-not-is_escape-clause-value : goal.returns-then-not-is_escape-clause-value
@@ -53,10 +49,9 @@ returns-then-not-is_escape-clause-value c _ =
     let s = c.args.s.now in
     let i = c.bytes.i in
     let whole = c.args.self.now.text.now in
-    let start = c.args.start in
-    let step = double_at whole s start i (omega (arith, c.as_bytes-bytes.ensures.len)) in
+    let step = double_at whole s c.args.start i (omega (arith, c.as_bytes-bytes.ensures.len)) in
     let some : 0 < length (drop (i + 1) s) = grind (arith, common_steps) in
-    let done : double whole start (drop i s) ≡ Err (BadEscape c.place-then-not-is_escape.result) = grind (arith, nat_tests, common_steps) in
+    let done : double whole c.args.start (drop i s) ≡ Err (BadEscape c.place-then-not-is_escape.result) = grind (arith, nat_tests, common_steps) in
     c.bytes.invariant.1 ∙ ap (with_front (take i s)) done
 
 pub bytes-preserved : goal.bytes-preserved
@@ -64,11 +59,10 @@ bytes-preserved c =
     let s = c.args.s.now in
     let i = c.bytes.i in
     let whole = c.args.self.now.text.now in
-    let start = c.args.start in
-    let step = double_at whole s start i (omega (arith, c.as_bytes-bytes.ensures.len)) in
+    let step = double_at whole s c.args.start i (omega (arith, c.as_bytes-bytes.ensures.len)) in
     let some : 0 < length (drop (i + 1) s) = grind (arith, common_steps) in
-    let done : double whole start (drop i s) ≡ with_front (get_or s i 0 ∷ get_or s (i + 1) 0 ∷ []) (double whole start (drop (i + 2) s)) = grind (arith, nat_tests, common_steps) in
-    (omega (arith, c.as_bytes-bytes.ensures.len), c.bytes.invariant.1 ∙ ap (with_front (take i s)) done ∙ with_front-with_front (take i s) _ _ ∙ ap (λ t. with_front t (double whole start (drop (i + 2) s))) (take_two s i (omega (arith, c.as_bytes-bytes.ensures.len))))
+    let done : double whole c.args.start (drop i s) ≡ with_front (get_or s i 0 ∷ get_or s (i + 1) 0 ∷ []) (double whole c.args.start (drop (i + 2) s)) = grind (arith, nat_tests, common_steps) in
+    (omega (arith, c.as_bytes-bytes.ensures.len), c.bytes.invariant.1 ∙ ap (with_front (take i s)) done ∙ with_front-with_front (take i s) _ _ ∙ ap (λ t. with_front t (double whole c.args.start (drop (i + 2) s))) (take_two s i (omega (arith, c.as_bytes-bytes.ensures.len))))
 
 pub returns-clause-value : goal.returns-clause-value
 returns-clause-value c _ =

@@ -1,7 +1,7 @@
 use Rattle.std.proofs.Common.{rules, ◌-◌, ◌∙◌, ap, sym, arith}
 use Rattle.sal_data.specs.Read.{in_order}
 use Rattle.sal_data.proofs.Flipped.{in_order-swap}
-use Rattle.sal_data.proofs.order.sunk.Goals as goal
+use Rattle.sal_data.proofs.order.insert_tail.Goals as goal
 
 pub loop-done-preserved : goal.loop-done-preserved
 loop-done-preserved c =

@@ -22,6 +22,10 @@ through-Some : (table : SchemaTable) (above : ℕ) (steps : List Step) (k : ℕ)
 unfolding through_plain
 through-Some table above steps k = refl
 
+-- a test of a node's kind
+pub kind_says : (test : Kind → Bool) (table : SchemaTable) (n : ℕ) (kind : Kind) → kind_of table n ≡ Some kind → is_kind test table n ≡ test kind
+kind_says test table n kind e = ap (λ o. option_map_or test o false) e
+
 module _ (table : SchemaTable) (n i : ℕ) (here : i < n) where
   -- one step up
   pub closest_step : (test : Kind → Bool) (above : ℕ) → closest test table (n - i) (Some above) ≡ cond (is_kind test table above) (Some above) (closest test table (n - (i + 1)) (parent_of table above))
@@ -29,6 +33,11 @@ module _ (table : SchemaTable) (n i : ℕ) (here : i < n) where
 
   pub through_step : (above : ℕ) (steps : List Step) → through_plain table (n - i) (Some above) steps ≡ cond (is_kind is_plain table above) (through_plain table (n - (i + 1)) (parent_of table above) (Node above ∷ steps)) steps
   through_step above steps = ap (λ k. through_plain table k (Some above) steps) (left_of n i here) ∙ through-Some table above steps (n - (i + 1))
+
+  -- and by the kind of the node
+  pub through_kind : (test : Bool) (above : ℕ) (kind : Kind) (steps : List Step) → kind_of table above ≡ Some kind → is_plain kind ≡ test
+      → through_plain table (n - i) (Some above) steps ≡ cond test (through_plain table (n - (i + 1)) (parent_of table above) (Node above ∷ steps)) steps
+  through_kind test above kind steps is plain = through_step above steps ∙ ap (λ b. cond b (through_plain table (n - (i + 1)) (parent_of table above) (Node above ∷ steps)) steps) (kind_says is_plain table above kind is ∙ plain)
 
 pub through-None : (table : SchemaTable) (k : ℕ) (steps : List Step) → through_plain table k None steps ≡ steps
 unfolding through_plain
@@ -70,10 +79,6 @@ closest-inside test table (suc steps) (Some n) = elim (is_kind test table n) as 
   | false ↦ λ e. closest-inside test table steps (parent_of table n)
 ] refl
 
--- a test of a node's kind
-pub kind_says : (test : Kind → Bool) (table : SchemaTable) (n : ℕ) (kind : Kind) → kind_of table n ≡ Some kind → is_kind test table n ≡ test kind
-kind_says test table n kind e = ap (λ o. option_map_or test o false) e
-
 -- ---- up to a list
 
 from-Some : (table : SchemaTable) (above : ℕ) (steps : List Step) (k : ℕ) → from_list table (suc k) (Some above) steps
@@ -93,6 +98,12 @@ from-None table (suc k) steps = refl
 pub from-step : (table : SchemaTable) (n i above : ℕ) (steps : List Step) → i < n → from_list table (n - i) (Some above) steps
     ≡ cond (is_kind is_list table above) steps (from_list table (n - (i + 1)) (parent_of table above) (cond (is_kind is_data table above) (Node above ∷ steps) steps))
 from-step table n i above steps here = ap (λ k. from_list table k (Some above) steps) (left_of n i here) ∙ from-Some table above steps (n - (i + 1))
+
+pub from-kind : (table : SchemaTable) (n i : ℕ) (test : Bool) (above : ℕ) (kind : Kind) (steps : List Step) → i < n → kind_of table above ≡ Some kind → is_list kind ≡ test
+    → from_list table (n - i) (Some above) steps ≡ cond test steps (from_list table (n - (i + 1)) (parent_of table above) (cond (is_kind is_data table above) (Node above ∷ steps) steps))
+from-kind table n i test above kind steps here is list =
+    from-step table n i above steps here
+    ∙ ap (λ b. cond b steps (from_list table (n - (i + 1)) (parent_of table above) (cond (is_kind is_data table above) (Node above ∷ steps) steps))) (kind_says is_list table above kind is ∙ list)
 
 pub from-end : (table : SchemaTable) (here : Option ℕ) (steps : List Step) (n i : ℕ) → n ≤ i → from_list table (n - i) here steps ≡ steps
 from-end table here steps n i h = ap (λ k. from_list table k here steps) (let e : n - i ≡ zero = omega arith in e) ∙ from-zero table here steps

@@ -6,11 +6,13 @@ use Rattle.std.proofs.lemmas.List.{take_more}
 use Rattle.std.proofs.lemmas.List.Elements.{filter-append}
 use Rattle.std.proofs.Common.{length-append}
 use Rattle.sal_types.specs.declared.value.Step.TheVariants.{Node}
+use Rattle.sal_schema.specs.declared.kind.Kind.{Kind}
 use Rattle.sal_schema.specs.declared.table.SchemaTable.{SchemaTable}
 use Rattle.sal_schema.specs.Kinds.{is_choice_or_case}
-use Rattle.sal_schema.specs.Table.{is_kind, children_of}
+use Rattle.sal_schema.specs.Table.{is_kind, kind_of, children_of}
 use Rattle.sal_rules.specs.Rules.{is_there}
 use Rattle.sal_rules.specs.Seen.{Seen}
+use Rattle.sal_check.proofs.Climbs.{kind_says}
 
 module _ (table : SchemaTable) (see : Seen) where
   pub there-zero : (n : ℕ) → is_there table see zero n ≡ false
@@ -23,6 +25,15 @@ module _ (table : SchemaTable) (see : Seen) where
 
   pub there-step : (deep n : ℕ) → 1 ≤ deep → is_there table see deep n ≡ cond (is_kind is_choice_or_case table n) (list_any (is_there table see (deep - 1)) (children_of table (Some n))) (see.has (Node n ∷ []))
   there-step deep n h = ap (λ k. is_there table see k n) (let e : deep ≡ suc (deep - 1) = omega arith in e) ∙ there-suc (deep - 1) n
+
+  module _ (deep n : ℕ) (some : 1 ≤ deep) (kind : Kind) (is : kind_of table n ≡ Some kind) where
+    -- by the kind of the node
+    pub there-kind : (test : Bool) → is_choice_or_case kind ≡ test → is_there table see deep n ≡ cond test (list_any (is_there table see (deep - 1)) (children_of table (Some n))) (see.has (Node n ∷ []))
+    there-kind test e = there-step deep n some ∙ ap (λ b. cond b (list_any (is_there table see (deep - 1)) (children_of table (Some n))) (see.has (Node n ∷ []))) (kind_says is_choice_or_case table n kind is ∙ e)
+
+    -- a choice or a case, by its children
+    pub there-among : is_choice_or_case kind ≡ true → (kids : List ℕ) → kids ≡ children_of table (Some n) → is_there table see deep n ≡ list_any (is_there table see (deep - 1)) kids
+    there-among e kids are = there-kind true e ∙ ap (list_any (is_there table see (deep - 1))) (sym are)
 
 pub take-all : {X : Type 0} (xs : List X) (n : ℕ) → length xs ≤ n → take n xs ≡ xs
 take-all [] zero l = refl

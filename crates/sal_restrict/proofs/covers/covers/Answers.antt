@@ -19,29 +19,26 @@ pub returns-then-next-part : goal.returns-then-next-part
 returns-then-next-part c =
     let parts = c.args.parts.now in
     let i = c.loop-part.part-index in
-    let numbers = c.args.numbers in
     let next = c.loop-part.next in
-    let part = get_or parts i none in
-    let rest = drop (i + 1) parts in
-    let was = subst (λ n. IsHeldUpto parts (drop i parts) numbers n) c.loop-part.next-is c.loop-part.invariant in
+    let was = subst (λ n. IsHeldUpto parts (drop i parts) c.args.numbers n) c.loop-part.next-is c.loop-part.invariant in
     let fits : FitsSigned w128 (get_or parts i none).low = search rules in
     let less : c.loop-part.next <ℤ (get_or parts i none).low = grind (arith, ints) in
     let order = subst (λ list. is_ascending list ≡ true) (drop_more parts i none c.loop-part-test.true) (is_ascending-drop i parts c.requires.order) in
-    sym (covers-gap parts (part ∷ rest) numbers next (at i c.loop-part-test.true was) (none_below (part ∷ rest) next order (lt_passes next part.low less)))
+    sym (covers-gap parts (get_or parts i none ∷ drop (i + 1) parts) c.args.numbers next (at i c.loop-part-test.true was)
+    (none_below (get_or parts i none ∷ drop (i + 1) parts) next order (lt_passes next (get_or parts i none).low less)))
 
 pub returns-then-numbers-part : goal.returns-then-numbers-part
 returns-then-numbers-part c =
     let parts = c.args.parts.now in
     let i = c.loop-part.part-index in
-    let numbers = c.args.numbers in
     let next = c.loop-part.next in
-    let was = subst (λ n. IsHeldUpto parts (drop i parts) numbers n) c.loop-part.next-is c.loop-part.invariant in
+    let was = subst (λ n. IsHeldUpto parts (drop i parts) c.args.numbers n) c.loop-part.next-is c.loop-part.invariant in
     let fits : FitsSigned w128 (get_or parts i none).low = search rules in
     let fits' : FitsSigned w128 (get_or parts i none).high = search rules in
     let fits'' : FitsSigned w128 c.args.numbers.high = search rules in
     let low : (get_or parts i none).low ≤ℤ c.loop-part.next = grind (arith, ints) in
     let high : c.args.numbers.high ≤ℤ (get_or parts i none).high = grind (arith, ints) in
-    sym (covers-rest parts (drop (i + 1) parts) numbers (get_or parts i none) next (at i c.loop-part-test.true was) low high)
+    sym (covers-rest parts (drop (i + 1) parts) c.args.numbers (get_or parts i none) next (at i c.loop-part-test.true was) low high)
 
 pub loop-part-preserved : goal.loop-part-preserved
 loop-part-preserved c =

@@ -1,6 +1,9 @@
 -- The walk: what is read of members and of entries, the first and those after it.
-use Rattle.std.proofs.Common.{◌≡◌, ℕ, true, List, [], ◌∷◌, ◌++◌, Option, Some, Result, Ok, Err, ap, ◌∙◌}
+use Rattle.std.proofs.Common.{◌≡◌, ℕ, ◌+◌, ◌<◌, true, List, [], ◌∷◌, ◌++◌, length, drop, get_or, Option, Some, Result, Ok, Err, ap, sym, ◌∙◌}
+use Rattle.std.proofs.lemmas.List.{drop_more}
 use Rattle.serde_json.specs.Data.{Data, Items, item, Members, member}
+use Rattle.serde_json.specs.View.{view, items_view}
+use Rattle.serde_json.specs.declared.value.Value.{Value as Json}
 use Rattle.sal_types.specs.declared.value.Step.{Step}
 use Rattle.sal_types.specs.declared.value.Step.TheVariants.{Node}
 use Rattle.sal_types.specs.declared.value.Cell.TheVariants.{Mark}
@@ -78,3 +81,30 @@ module _ (table : SchemaTable) (n : ℕ) (path seen : List Step) (json : Data) (
         ap (followed out) (enters-ok path seen on_entry keys same (key_step table n path json) step is below e)
         ∙ followed-then out (marked true below (object_rows table (Some n) below json)) (entries_rows table n path (step ∷ seen) items)
         ∙ ap (λ now. go_on now (entries_rows table n path (step ∷ seen) items)) (followed-followed out (mark_at below ∷ []) (object_rows table (Some n) below json))
+
+-- ---- the entry at an index
+
+module _ (table : SchemaTable) (n : ℕ) (path seen : List Step) (xs : List Json) (i : ℕ) (x : Json) (inside : i < length xs) (is : x ≡ get_or xs i x) (out : List Row) where
+  abbrev others : Items
+  others = items_view (drop (i + 1) xs)
+
+  here : drop i xs ≡ x ∷ drop (i + 1) xs
+  here = drop_more xs i x inside ∙ ap (λ y. y ∷ drop (i + 1) xs) (sym is)
+
+  module _ (keys : List Step) (same : HaveSame keys seen) (step : Step) where
+    pub item-fails : (fault : DataFault) → item_step table n path (view x) ≡ Ok step → new_entry keys path step ≡ Err fault
+        → followed out (items_rows table n path seen (items_view (drop i xs))) ≡ Err fault
+    item-fails fault first e = ap (λ ys. followed out (items_rows table n path seen (items_view ys))) here ∙ items-no_entry table n path seen (view x) others out keys same step fault first e
+
+    pub item-here : (below : List Step) → item_step table n path (view x) ≡ Ok step → new_entry keys path step ≡ Ok below
+        → followed out (items_rows table n path seen (items_view (drop i xs))) ≡ followed (out ++ mark_at below ∷ []) (items_rows table n path (step ∷ seen) others)
+    item-here below first e = ap (λ ys. followed out (items_rows table n path seen (items_view ys))) here ∙ items-one table n path seen (view x) others out keys same step below first e
+
+    pub entry-fails : (fault : DataFault) → key_step table n path (view x) ≡ Ok step → new_entry keys path step ≡ Err fault
+        → followed out (entries_rows table n path seen (items_view (drop i xs))) ≡ Err fault
+    entry-fails fault first e = ap (λ ys. followed out (entries_rows table n path seen (items_view ys))) here ∙ entries-no_entry table n path seen (view x) others out keys same step fault first e
+
+    pub entry-here : (below : List Step) → key_step table n path (view x) ≡ Ok step → new_entry keys path step ≡ Ok below
+        → followed out (entries_rows table n path seen (items_view (drop i xs)))
+        ≡ go_on (followed (out ++ mark_at below ∷ []) (object_rows table (Some n) below (view x))) (entries_rows table n path (step ∷ seen) others)
+    entry-here below first e = ap (λ ys. followed out (entries_rows table n path seen (items_view ys))) here ∙ entries-one table n path seen (view x) others out keys same step below first e

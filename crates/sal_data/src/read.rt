@@ -18,6 +18,14 @@ use sal_types::{Duplicate, NoMemory, Path, Row, Step};
 use serde_json::Value as Json;
 use std::alloc::Global;
 
+/// The path of an entry of a list or leaf-list, and its last step.
+#[derive(Drop)]
+struct EntryAt<'p> {
+    node: u32,
+    path: &'p Path,
+    step: &'p Step,
+}
+
 fn before_last(alloc: Global, path: &Path) -> Result<Path, NoMemory>
     ensures { IfOk result (λ front. front ≡ spec.before_last path.now) }
 {
@@ -50,40 +58,30 @@ impl<'a> Reader<'a> {
     }
 
     /// Appends the rows of the list entry at the path.
-    fn entry_rows(
-        &self,
-        node: u32,
-        path: &Path,
-        asked: &Step,
-        json: &Json,
-        out: &mut Vec<Row>,
-    ) -> Result<(), DataFault>
-        ensures { GivesUnless DataFault.NoMemory (λ _. out.new.items) result (spec.followed out.old.items (spec.entry_rows self.now.schema.now path.now asked.now (view json.now) node)) }
+    fn entry_rows(&self, at: &EntryAt, json: &Json, out: &mut Vec<Row>) -> Result<(), DataFault>
+        ensures { GivesUnless DataFault.NoMemory (λ _. out.new.items) result (spec.followed out.old.items (spec.entry_rows self.now.schema.now at.now.path.now at.now.step.now (view json.now) at.now.node)) }
     {
-        let step = self.entry_step(node, path, json)?;
-        if !is_asked(asked, step) {
-            return Err(DataFault::KeyDiffers { path: path.copy()? });
+        let step = self.entry_step(at.node, at.path, json)?;
+        if !is_asked(at.step, step) {
+            return Err(DataFault::KeyDiffers {
+                path: at.path.copy()?,
+            });
         }
-        mark(path, out)?;
-        self.object_rows(Some(node), path, json, out)
+        mark(at.path, out)?;
+        self.object_rows(Some(at.node), at.path, json, out)
     }
 
     /// Appends the row of the leaf-list entry at the path.
-    fn item_rows(
-        &self,
-        node: u32,
-        path: &Path,
-        asked: &Step,
-        json: &Json,
-        out: &mut Vec<Row>,
-    ) -> Result<(), DataFault>
-        ensures { GivesUnless DataFault.NoMemory (λ _. out.new.items) result (spec.followed out.old.items (spec.item_rows self.now.schema.now path.now asked.now (view json.now) node)) }
+    fn item_rows(&self, at: &EntryAt, json: &Json, out: &mut Vec<Row>) -> Result<(), DataFault>
+        ensures { GivesUnless DataFault.NoMemory (λ _. out.new.items) result (spec.followed out.old.items (spec.item_rows self.now.schema.now at.now.path.now at.now.step.now (view json.now) at.now.node)) }
     {
-        let step = self.value_step(node, path, json)?;
-        if !is_asked(asked, step) {
-            return Err(DataFault::KeyDiffers { path: path.copy()? });
+        let step = self.value_step(at.node, at.path, json)?;
+        if !is_asked(at.step, step) {
+            return Err(DataFault::KeyDiffers {
+                path: at.path.copy()?,
+            });
         }
-        mark(path, out)?;
+        mark(at.path, out)?;
         Ok(())
     }
 
@@ -94,11 +92,11 @@ impl<'a> Reader<'a> {
         match (path.steps().last(), node_at_end(path.steps())) {
             (None, _) => self.object_rows(None, path, json, out),
             (Some(Step::Node(node)), _) => self.node_rows(*node, path.copy()?, json, out),
-            (Some(asked @ Step::Key(_)), Some(node)) => {
-                self.entry_rows(node, path, asked, json, out)
+            (Some(step @ Step::Key(_)), Some(node)) => {
+                self.entry_rows(&EntryAt { node, path, step }, json, out)
             }
-            (Some(asked @ Step::Item(_)), Some(node)) => {
-                self.item_rows(node, path, asked, json, out)
+            (Some(step @ Step::Item(_)), Some(node)) => {
+                self.item_rows(&EntryAt { node, path, step }, json, out)
             }
             (Some(_), None) => Err(DataFault::WrongShape { path: path.copy()? }),
         }

@@ -39,17 +39,14 @@ fn push_leafref<'x, 'a>(all: &mut Vec<Leafref<'a>>, spot: &Spot<'x, 'a>) -> Resu
     Ok(())
 }
 
-/// `leafrefs_at`, by a search through all statements that this one depends on.
+/// `leafrefs_at` of the statement at a spot, by a search through all statements that it depends on.
 fn leafrefs_by_way<'x, 'a>(
     alloc: Global,
     typedefs: &'x Typedefs<'a>,
-    number: u32,
-    around: &'x [Block<'a>],
-    stmt: &'a Stmt,
+    spot: Spot<'x, 'a>,
 ) -> Result<Vec<Leafref<'a>>, NoMemory>
-    ensures { IfOk result (λ all. map spec.leafref_seen all.items ≡ map spec.stmt_in (names.leafrefs_of typedefs.now (site_in number around.now stmt.now))) }
+    ensures { IfOk result (λ all. map spec.leafref_seen all.items ≡ map spec.stmt_in (names.leafrefs_of typedefs.now (site_of spot.entry))) }
 {
-    let spot = Spot::new(alloc, number, around, stmt);
     let mut all = Vec::new(alloc);
     let mut ways = start(alloc, typedefs, spot)?;
     'ways: while let Some(gone) = next(&mut ways, alloc, typedefs)? {
@@ -74,7 +71,10 @@ pub fn leafrefs_at<'x, 'a>(
     ensures { IfOk result (λ all. map spec.leafref_seen all.items ≡ map spec.stmt_in (names.leafrefs_of typedefs.now (site_in number around.now stmt.now))) }
 {
     match whole_builtin(stmt) {
-        None => leafrefs_by_way(alloc, typedefs, number, around, stmt),
+        None => {
+            let spot = Spot::new(alloc, number, around, stmt);
+            leafrefs_by_way(alloc, typedefs, spot)
+        }
         Some(_builtin) => Ok(Vec::new(alloc)),
     }
 }

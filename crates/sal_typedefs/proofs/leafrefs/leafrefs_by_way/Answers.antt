@@ -3,20 +3,16 @@ use Rattle.sal_stmt.specs.declared.stmt.Stmt.{Stmt}
 use Rattle.sal_typedefs.specs.declared.walk.Way.{Way}
 use Rattle.sal_typedefs.specs.Scopes.{Site}
 use Rattle.sal_typedefs.specs.Names.{is_leafref, steps_of}
-use Rattle.sal_typedefs.specs.Spots.{site_of, site_in}
-use Rattle.sal_typedefs.specs.Walks.{Node, nodes, left, node_of}
+use Rattle.sal_typedefs.specs.Spots.{site_of}
+use Rattle.sal_typedefs.specs.Walks.{Node, left, node_of}
 use Rattle.sal_typedefs.specs.Leafrefs.{leafref_seen, stmt_in}
 use Rattle.sal_typedefs.proofs.WalkLists.{sites-under, passing-more}
 use Rattle.sal_typedefs.proofs.leafrefs.leafrefs_by_way.Goals as goal
 
 pub ways-init : goal.ways-init
 ways-init c =
-    let a = c.args in
-    let modules = a.typedefs.now in
-    let steps = steps_of modules in
-    let site : Site = site_in a.number a.around.now a.stmt.now in
-    let ways = c.in_ok-ways.ensures ∙ ap (nodes steps modules) c.new-spot.ensures in
-    let sites = ap (map (λ (n : Node). n.site)) ways ∙ sites-under steps modules site in
+    let modules = c.args.typedefs.now in
+    let sites = ap (map (λ (n : Node). n.site)) c.in_ok-ways.ensures ∙ sites-under (steps_of modules) modules (site_of c.args.spot) in
     ap (λ items. map leafref_seen items ++ map stmt_in (filter is_leafref (map (λ (n : Node). n.site) (left modules c.in_ok-ways.ways.items)))) c.new-all.ensures.items
     ∙ ap (λ sites. map stmt_in (filter is_leafref sites)) sites
 

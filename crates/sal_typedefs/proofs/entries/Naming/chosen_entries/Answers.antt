@@ -12,13 +12,11 @@ loop-sub-preserved c =
     let from = Some a.from.now in
     let p = is_named (item_of n) in
     let subs = subs_of a.stmt.now in
-    let i = c.loop-sub.sub-index in
-    let sub = c.sub-item.result in
     let is = rw c.items-sub-items.ensures at c.sub-item.is in
     let lt = rw c.items-sub-items.ensures at c.loop-sub-test.true in
-    let here : p sub ≡ true = sym (rw c.item.ensures at c.is_named.ensures) ∙ c.if-not-is_named.false in
+    let here : p c.sub-item.result ≡ true = sym (rw c.item.ensures at c.is_named.ensures) ∙ c.if-not-is_named.false in
     record {
-      entries = entries-more n from a.self.number p subs i sub lt is c.loop-sub.entries.items c.with_choice.new.entries.items here c.loop-sub.invariant.entries c.in_ok-best.ensures.entries;
-      fault = faults-more n from a.self.number p subs i sub lt is c.loop-sub.entries.items a.best c.loop-sub.best c.in_ok-best.best here c.loop-sub.invariant.entries c.loop-sub.invariant.fault
+      entries = entries-more n from a.self.number p subs c.loop-sub.sub-index c.sub-item.result lt is c.loop-sub.entries.items c.with_choice.new.entries.items here c.loop-sub.invariant.entries c.in_ok-best.ensures.entries;
+      fault = faults-more n from a.self.number p subs c.loop-sub.sub-index c.sub-item.result lt is c.loop-sub.entries.items a.best c.loop-sub.best c.in_ok-best.best here c.loop-sub.invariant.entries c.loop-sub.invariant.fault
           c.in_ok-best.ensures.fault;
     }

@@ -1,5 +1,5 @@
 //! Values read from JSON values and from key texts.
-ghost use Rattle.std.specs.Prelude.{◌≡◌, ◌<◌, Some, IfOk, IsTrue, length, map};
+ghost use Rattle.std.specs.Prelude.{◌≡◌, ◌<◌, [], ◌∷◌, Some, IfOk, IsTrue, length, map};
 ghost use Rattle.std.specs.List.{slice_get, list_all};
 ghost use Rattle.sal_types.specs.Reading.{GivesUnless};
 ghost use Rattle.sal_restrict.specs.declared.yang_type.YangType.{YangType as TypeOf, out-YangType};
@@ -144,59 +144,55 @@ struct AnyType<'a> {
 }
 
 impl<'a> AnyType<'a> {
+    /// The type as a union of these members.
+    fn union_of(&self, members: &'a [YangType]) -> Members<'a>
+        requires good { IsTrue (list_all (λ member. is_good_layer self.now.schema.now (out-YangType member)) members.now) }
+        requires compiled { self.now.wholes.now ≡ map plain_searched members.now }
+        ensures schema { result.schema.now ≡ self.now.schema.now }
+        ensures home { result.«module» ≡ self.now.«module» }
+        ensures types { result.types.now ≡ members.now }
+    {
+        Members {
+            schema: self.schema,
+            module: self.module,
+            types: members,
+            wholes: self.wholes,
+        }
+    }
+
+    /// The type as one that is no union.
+    fn plain_type(&self) -> PlainType<'a>
+        requires good { IsTrue (is_good_layer self.now.schema.now (out-YangType self.now.ty.now)) }
+        requires compiled { self.now.wholes.now ≡ plain_searched self.now.ty.now ∷ [] }
+        ensures schema { result.schema.now ≡ self.now.schema.now }
+        ensures home { result.«module» ≡ self.now.«module» }
+        ensures ty { result.ty.now ≡ self.now.ty.now }
+    {
+        PlainType {
+            schema: self.schema,
+            module: self.module,
+            ty: self.ty,
+            wholes: self.wholes[0].items(),
+        }
+    }
+
     fn text_value(&self, alloc: Global, text: &str) -> Result<Value, ScalarFault>
         ensures { GivesUnless ScalarFault.NoMemory (λ value. value) result (spec.type_text_scalar self.now.schema.now self.now.ty.now self.now.«module» text.now) }
     {
-        let (schema, module, wholes) = (self.schema, self.module, self.wholes);
+        let _ = &self.wholes;
         match self.ty {
-            YangType::Union { members } => {
-                let types = members.items();
-                let union = Members {
-                    schema,
-                    module,
-                    types,
-                    wholes,
-                };
-                union.text_value(alloc, text)
-            }
-            ty => {
-                let wholes = wholes[0].items();
-                let layer = PlainType {
-                    schema,
-                    module,
-                    ty,
-                    wholes,
-                };
-                plain(layer.text_atom(alloc, text))
-            }
+            YangType::Union { members } => self.union_of(members.items()).text_value(alloc, text),
+            _ => plain(self.plain_type().text_atom(alloc, text)),
         }
     }
 
     fn json_value(&self, alloc: Global, json: &Json) -> Result<Value, ScalarFault>
         ensures { GivesUnless ScalarFault.NoMemory (λ value. value) result (spec.type_scalar self.now.schema.now self.now.ty.now self.now.«module» (view json.now)) }
     {
-        let (schema, module, wholes) = (self.schema, self.module, self.wholes);
+        let _ = &self.wholes;
         match self.ty {
-            YangType::Union { members } => {
-                let types = members.items();
-                let union = Members {
-                    schema,
-                    module,
-                    types,
-                    wholes,
-                };
-                union.json_value(alloc, json)
-            }
-            ty => {
-                let wholes = wholes[0].items();
-                let layer = PlainType {
-                    schema,
-                    module,
-                    ty,
-                    wholes,
-                };
-                plain(layer.json_atom(alloc, json))
-            }
+            YangType::Union { members } => self.union_of(members.items()).json_value(alloc, json),
+            _ => plain(self.plain_type().json_atom(alloc, json)),
         }
     }
 }

@@ -1,5 +1,5 @@
 //! Values read from JSON values and from key texts.
-ghost use Rattle.std.specs.Prelude.{◌≡◌, ◌<◌, [], ◌∷◌, Some, IfOk, IsTrue, length, map};
+ghost use Rattle.std.specs.Prelude.{drop, ◌≡◌, ◌<◌, ◌+◌, [], ◌∷◌, Some, IfOk, IsTrue, length, map};
 ghost use Rattle.std.specs.List.{slice_get, list_all};
 ghost use Rattle.sal_types.specs.Reading.{GivesUnless};
 ghost use Rattle.sal_restrict.specs.declared.yang_type.YangType.{YangType as TypeOf, out-YangType};
@@ -86,21 +86,27 @@ struct Members<'a> {
 }
 
 impl<'a> Members<'a> {
+    /// The member at this index.
+    fn at(&self, i: usize) -> PlainType<'a>
+        requires { i < length self.now.types.now }
+        ensures schema { result.schema.now ≡ self.now.schema.now }
+        ensures home { result.«module» ≡ self.now.«module» }
+        ensures ty { drop i self.now.types.now ≡ result.ty.now ∷ drop (i + 1) self.now.types.now }
+    {
+        PlainType {
+            schema: self.schema,
+            module: self.module,
+            ty: &self.types[i],
+            wholes: self.wholes[i].items(),
+        }
+    }
+
     /// The value of a text in the first member in whose form it is.
     fn text_value(&self, alloc: Global, text: &str) -> Result<Value, ScalarFault>
         ensures { GivesUnless ScalarFault.NoMemory (λ value. value) result (spec.first_own (spec.own_text self.now.schema.now self.now.«module» text.now) 0 self.now.types.now) }
     {
-        let (schema, module) = (self.schema, self.module);
         for i in 0..self.types.len() {
-            let ty = &self.types[i];
-            let wholes = self.wholes[i].items();
-            let member = PlainType {
-                schema,
-                module,
-                ty,
-                wholes,
-            };
-            match member.own_text(alloc, text)? {
+            match self.at(i).own_text(alloc, text)? {
                 Some(atom) => return Ok(member_value(i, atom)),
                 None => {}
             }
@@ -112,17 +118,8 @@ impl<'a> Members<'a> {
     fn json_value(&self, alloc: Global, json: &Json) -> Result<Value, ScalarFault>
         ensures { GivesUnless ScalarFault.NoMemory (λ value. value) result (spec.first_own (spec.own_json self.now.schema.now self.now.«module» (view json.now)) 0 self.now.types.now) }
     {
-        let (schema, module) = (self.schema, self.module);
         for i in 0..self.types.len() {
-            let ty = &self.types[i];
-            let wholes = self.wholes[i].items();
-            let member = PlainType {
-                schema,
-                module,
-                ty,
-                wholes,
-            };
-            match member.own_json(alloc, json)? {
+            match self.at(i).own_json(alloc, json)? {
                 Some(atom) => return Ok(member_value(i, atom)),
                 None => {}
             }

@@ -13,7 +13,7 @@ use Rattle.sal_follow.specs.declared.fault.ExportFault.TheVariants.{TooLong, NoM
 use Rattle.sal_follow.specs.declared.frame.Frame.{Frame}
 use Rattle.sal_follow.specs.Exporting.{patch_of, frame_on, Puts, AreBetween}
 use Rattle.sal_follow.specs.Laws.{StreamsGoOnAfter}
-use Rattle.sal_follow.specs.Framed.{Trees, nothing, before_at, frame_of, frames_from, frames, frames_on, frames_since, frame_bytes, bytes_of, exported, patch_by, patches, too_long, AreTexts, ExportsOn}
+use Rattle.sal_follow.specs.Framed.{Trees, nothing, before_at, frame_of, frames_from, frames, frames_on, stream_of, frames_since, frame_bytes, bytes_of, exported, patch_by, patches, too_long, AreTexts, ExportsOn}
 
 -- the result of a fault that is passed on
 pub err_so : {X E : Type 0} (P : Result X E → Type 0) (result : Result X E) (e : E) → IsErrAnd result (λ d. d ≡ e) → P (Err e) → P result
@@ -116,8 +116,6 @@ append-frames k before (t ∷ trees) last more =
     ∙ ap (λ fs. frame_of k before t ∷ fs) (append-frames (k + 1) t trees last more)
 
 pub goes-on-after : StreamsGoOnAfter
-goes-on-after table trees last more =
-    let from : 0 + length trees + 1 ≡ length trees + 1 = omega arith in
-    sym (flat_map-append (frame_bytes table) (frames (trees ++ last ∷ [])) (frames_from (length trees + 1) last more))
-    ∙ ap (λ m. bytes_of table (frames (trees ++ last ∷ []) ++ frames_from m last more)) (sym from)
-    ∙ ap (bytes_of table) (append-frames 0 nothing trees last more)
+goes-on-after table first trees last more =
+    sym (flat_map-append (frame_bytes table) (stream_of first (trees ++ last ∷ [])) (frames_from (first + length trees + 1) last more))
+    ∙ ap (bytes_of table) (append-frames first nothing trees last more)

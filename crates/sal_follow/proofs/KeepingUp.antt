@@ -7,8 +7,8 @@ use Rattle.sal_follow.specs.declared.fault.FollowFault.{FollowFault}
 use Rattle.sal_follow.specs.Laws.{HoldsOneOf}
 use Rattle.sal_follow.specs.Leader.{KeepsUp}
 use Rattle.sal_follow.specs.States.{Following, Feeds}
-use Rattle.sal_follow.specs.Stream.{Held, fresh, after_byte, followed, answer}
-use Rattle.sal_follow.proofs.Followed.{exports_followed}
+use Rattle.sal_follow.specs.Stream.{Held, fresh_at, after_byte, followed, answer}
+use Rattle.sal_follow.proofs.Followed.{streams_followed}
 
 -- one piece after another
 pub joined : (table : SchemaTable) (h : Held) (before piece : List ℕ) → followed table h (before ++ piece) ≡ followed table (followed table h before) piece
@@ -19,9 +19,9 @@ no_fault : (h : Held) → h.fault ≡ None → answer h ≡ Ok h.version
 no_fault h none = ap (λ (o : Option FollowFault). option_map_or (λ fault. Err fault) o (Ok h.version)) none
 
 pub keeps_up : (piece : List ℕ) (old new : Following) (result : Result (Option ℕ) FollowFault) → Feeds piece old new result → KeepsUp piece old new result
-keeps_up piece old new result (inr (wanting, same)) trees before more all texts short came prefix = inl wanting
-keeps_up piece old new result (inl (is, answers)) trees before more all texts short came prefix =
-    let now : new.held ≡ followed old.schema fresh (before ++ piece) =
-    ap (λ (f : Following). f.held) is ∙ ap (λ h. followed old.schema h piece) came ∙ sym (joined old.schema fresh before piece) in
-    let holds : HoldsOneOf trees new.held = subst (HoldsOneOf trees) (sym now) (exports_followed old.schema trees all texts short (before ++ piece) more prefix) in
+keeps_up piece old new result (inr (wanting, same)) first trees before more all texts short came prefix = inl wanting
+keeps_up piece old new result (inl (is, answers)) first trees before more all texts short came prefix =
+    let now : new.held ≡ followed old.schema (fresh_at first) (before ++ piece) =
+    ap (λ (f : Following). f.held) is ∙ ap (λ h. followed old.schema h piece) came ∙ sym (joined old.schema (fresh_at first) before piece) in
+    let holds : HoldsOneOf first trees new.held = subst (HoldsOneOf first trees) (sym now) (streams_followed old.schema first trees all texts short (before ++ piece) more prefix) in
     inr (holds, answers ∙ no_fault new.held holds.0)

@@ -12,7 +12,8 @@ use Rattle.sal_follow.specs.declared.front.Front.{Front}
 use Rattle.sal_follow.specs.declared.front.Front.TheVariants.{Part, Broken, Whole}
 use Rattle.sal_follow.specs.Frames.{frame_in}
 use Rattle.sal_follow.specs.Front.{front, text_in, size_of}
-use Rattle.sal_follow.specs.Stream.{Held, fresh, failed, next, are_trees, moved, if_trees, if_next, taken, judged, with_byte, after_byte, followed}
+use Rattle.sal_follow.specs.Laws.{IsCounted}
+use Rattle.sal_follow.specs.Stream.{Held, fresh_at, failed, next, are_trees, moved, if_trees, if_next, taken, judged, with_byte, after_byte, followed}
 use Rattle.sal_follow.proofs.Feeding.{stays-faulty}
 use Rattle.sal_follow.proofs.Fronts.{whole-there, at_last_byte}
 
@@ -29,7 +30,7 @@ module _ (table : SchemaTable) where
 
   took_frame : (h : Held) (size : ℕ) (o : Option Frame) → Took h size (option_map_or (if_next table h size) o (failed h (BadFrame h.at)))
   took_frame h size None = took_failed h size (BadFrame h.at)
-  took_frame h size (Some f) = by_number (f.commit == next h.version)
+  took_frame h size (Some f) = by_number (f.commit == next h)
     where
       config : List Row
       config = patched h.config f.config
@@ -41,9 +42,9 @@ module _ (table : SchemaTable) where
       by_trees true = (refl, inr refl)
       by_trees false = took_failed h size (BadFrame h.at)
 
-      by_number : (b : Bool) → Took h size (if b then if_trees table h size f.commit config oper else failed h (Gap (next h.version) f.commit))
+      by_number : (b : Bool) → Took h size (if b then if_trees table h size f.commit config oper else failed h (Gap (next h) f.commit))
       by_number true = by_trees (are_trees table config oper)
-      by_number false = took_failed h size (Gap (next h.version) f.commit)
+      by_number false = took_failed h size (Gap (next h) f.commit)
 
   -- ---- no more bytes than were fed
 
@@ -129,6 +130,40 @@ module _ (table : SchemaTable) where
       (sym (ap (λ (o : Option FollowFault). if is_some o then h else judged table (with_byte h b) (front (h.rest ++ b ∷ []))) going))
       (counted_by h b bytes part going (counted bytes) (front (h.rest ++ b ∷ [])) refl) ends
 
-  pub places : (bytes : List ℕ) → ((followed table fresh bytes).at + length (followed table fresh bytes).rest ≤ length bytes)
-      × ((followed table fresh bytes).fault ≡ None → (followed table fresh bytes).at + length (followed table fresh bytes).rest ≡ length bytes)
-  places bytes = (omega (arith, no_more fresh bytes), λ ends. omega (arith, counted bytes fresh refl refl ends))
+  -- ---- the number of the first frame
+
+  same_first : (h : Held) (f : Front) → (judged table h f).first ≡ h.first
+  same_first h Part = refl
+  same_first h Broken = refl
+  same_first h (Whole n) = by (frame_in table (text_in h.rest n))
+    where
+      by_trees : (b : Bool) (k : ℕ) (config oper : List Row) → (if b then moved h (size_of n) k config oper else failed h (BadFrame h.at)).first ≡ h.first
+      by_trees true k config oper = refl
+      by_trees false k config oper = refl
+
+      by_number : (b : Bool) (f : Frame) → (if b then if_trees table h (size_of n) f.commit (patched h.config f.config) (patched h.oper f.oper) else failed h (Gap (next h) f.commit)).first ≡ h.first
+      by_number true f = by_trees (are_trees table (patched h.config f.config) (patched h.oper f.oper)) f.commit (patched h.config f.config) (patched h.oper f.oper)
+      by_number false f = refl
+
+      by : (o : Option Frame) → (option_map_or (if_next table h (size_of n)) o (failed h (BadFrame h.at))).first ≡ h.first
+      by None = refl
+      by (Some f) = by_number (f.commit == next h) f
+
+  byte_first : (h : Held) (b : ℕ) → (after_byte table h b).first ≡ h.first
+  byte_first h b = by (is_some h.fault)
+    where
+      by : (f : Bool) → (if f then h else judged table (with_byte h b) (front (h.rest ++ b ∷ []))).first ≡ h.first
+      by true = refl
+      by false = same_first (with_byte h b) (front (h.rest ++ b ∷ []))
+
+  pub stays_first : (h : Held) (bytes : List ℕ) → (followed table h bytes).first ≡ h.first
+  unfolding followed
+  stays_first h [] = refl
+  stays_first h (b ∷ bytes) = stays_first (after_byte table h b) bytes ∙ byte_first h b
+
+  pub places : (first : ℕ) (bytes : List ℕ) → IsCounted first bytes (followed table (fresh_at first) bytes)
+  places first bytes = record {
+    first = stays_first (fresh_at first) bytes;
+    most = omega (arith, no_more (fresh_at first) bytes);
+    exact = λ ends. omega (arith, counted bytes (fresh_at first) refl refl ends);
+  }

@@ -1,5 +1,5 @@
 -- One frame more in a run.
-use Rattle.std.proofs.Common.{◌≡◌, ℕ, ◌+◌, ◌<◌, ◌≤◌, Bool, true, false, List, [], ◌++◌, Some, None, if◌then◌else◌, refl, ap, sym, ◌∙◌, arith}
+use Rattle.std.proofs.Common.{◌≡◌, ℕ, ◌+◌, ◌<◌, ◌≤◌, Bool, true, false, List, [], ◌++◌, Some, None, if◌then◌else◌, refl, ap, sym, subst, ◌∙◌, arith}
 use Rattle.std.proofs.lemmas.List.Sums.{fold-append}
 use Rattle.sal_types.specs.declared.row.Row.{Row}
 use Rattle.sal_rows.specs.declared.rows.patch.Patch.{Patch}
@@ -30,7 +30,7 @@ both_in s = record { config = s.config; oper = s.oper }
 
 module _ (table : SchemaTable) (start : State) (run it : Run) (both : Both) (sound : IsSound table start run) where
   module _ (size : ℕ) (f : Frame) (good : trees_after table (both_in run.state) f.config f.oper ≡ Some both)
-      (is : it.state ≡ record { version = Some f.commit; config = both.config; oper = both.oper; at = run.state.at + size; fault = None }) where
+      (is : it.state ≡ record { first = run.state.first; version = Some f.commit; config = both.config; oper = both.oper; at = run.state.at + size; fault = None }) where
     parts : (are_trees table (patched run.state.config f.config) (patched run.state.oper f.oper) ≡ true) × (record { config = patched run.state.config f.config; oper = patched run.state.oper f.oper } ≡ both)
     parts = passed (are_trees table (patched run.state.config f.config) (patched run.state.oper f.oper)) (record { config = patched run.state.config f.config; oper = patched run.state.oper f.oper }) both good
 
@@ -40,24 +40,25 @@ module _ (table : SchemaTable) (start : State) (run it : Run) (both : Both) (sou
         ∙ ap (λ (b : Both). moved (held run.state []) size f.commit b.config b.oper) (sym parts.1)
         ∙ sym (ap (λ b. if b then moved (held run.state []) size f.commit (patched run.state.config f.config) (patched run.state.oper f.oper) else failed (held run.state []) (BadFrame run.state.at)) parts.0)
 
-    pub moved-sound : 0 < size → f.commit ≡ next run.state.version → it.log.config.items ≡ run.log.config.items ++ f.config → it.log.oper.items ≡ run.log.oper.items ++ f.oper → IsSound table start it
+    pub moved-sound : 0 < size → f.commit ≡ next (held run.state []) → it.log.config.items ≡ run.log.config.items ++ f.config → it.log.oper.items ≡ run.log.oper.items ++ f.oper → IsSound table start it
     moved-sound some number config oper =
         let at : it.state.at ≡ run.state.at + size = ap (λ (s : State). s.at) is in
-        let version : next it.state.version ≡ f.commit + 1 = ap (λ (s : State). next s.version) is in
+        let first : it.state.first ≡ run.state.first = ap (λ (s : State). s.first) is in
+        let version : next (held it.state []) ≡ f.commit + 1 = ap (λ (s : State). next (held s [])) is in
         let low = sound.within in
         let now : it.state.config ≡ patched run.state.config f.config = ap (λ (s : State). s.config) is ∙ ap (λ (b : Both). b.config) (sym parts.1) in
         let oper_now : it.state.oper ≡ patched run.state.oper f.oper = ap (λ (s : State). s.oper) is ∙ ap (λ (b : Both). b.oper) (sym parts.1) in
         record {
-          within = omega (arith, at, version, low, number);
+          within = omega (arith, at, first, version, low, number, some);
           trees = (λ i. are_trees table (now i) (oper_now i)) ∙ parts.0;
           config = now ∙ grown start.config run.state.config run.log.config.items f.config sound.config ∙ ap (patched start.config) (sym config);
           oper = oper_now ∙ grown start.oper run.state.oper run.log.oper.items f.oper sound.oper ∙ ap (patched start.oper) (sym oper);
         }
 
   module _ (config : both.config ≡ patched start.config run.log.config.items) (oper : both.oper ≡ patched start.oper run.log.oper.items)
-      (is : it.state ≡ record { version = run.state.version; config = both.config; oper = both.oper; at = run.state.at; fault = Some (BadFrame run.state.at) }) where
-    same : it.state ≡ record { version = run.state.version; config = run.state.config; oper = run.state.oper; at = run.state.at; fault = Some (BadFrame run.state.at) }
-    same = is ∙ (λ i. record { version = run.state.version; config = (config ∙ sym sound.config) i; oper = (oper ∙ sym sound.oper) i; at = run.state.at; fault = Some (BadFrame run.state.at) })
+      (is : it.state ≡ record { first = run.state.first; version = run.state.version; config = both.config; oper = both.oper; at = run.state.at; fault = Some (BadFrame run.state.at) }) where
+    same : it.state ≡ record { first = run.state.first; version = run.state.version; config = run.state.config; oper = run.state.oper; at = run.state.at; fault = Some (BadFrame run.state.at) }
+    same = is ∙ (λ i. record { first = run.state.first; version = run.state.version; config = (config ∙ sym sound.config) i; oper = (oper ∙ sym sound.oper) i; at = run.state.at; fault = Some (BadFrame run.state.at) })
 
     pub spoiled-held : (size k : ℕ) (cs os : List Patch) → trees_after table (both_in run.state) cs os ≡ None
         → held it.state [] ≡ if_trees table (held run.state []) size k (patched run.state.config cs) (patched run.state.oper os)
@@ -68,16 +69,16 @@ module _ (table : SchemaTable) (start : State) (run it : Run) (both : Both) (sou
 
     pub spoiled-sound : it.log ≡ run.log → IsSound table start it
     spoiled-sound log = record {
-      within = let low = sound.within in let at : it.state.at ≡ run.state.at = ap (λ (s : State). s.at) same in let version : next it.state.version ≡ next run.state.version = ap (λ (s : State). next s.version) same in omega (arith, at, version, low);
+      within = subst (λ (s : State). next (held s []) ≤ s.first + s.at) (sym same) sound.within;
       trees = ap (λ (s : State). are_trees table s.config s.oper) same ∙ sound.trees;
       config = ap (λ (s : State). s.config) same ∙ sound.config ∙ ap (λ l. patched start.config l.config.items) (sym log);
       oper = ap (λ (s : State). s.oper) same ∙ sound.oper ∙ ap (λ l. patched start.oper l.oper.items) (sym log);
     }
 
 -- before the first frame
-pub begun-sound : (table : SchemaTable) (start : State) (run : Run) → next start.version ≤ start.at → HasTrees table start → run.state ≡ start → run.log.config.items ≡ [] → run.log.oper.items ≡ [] → IsSound table start run
+pub begun-sound : (table : SchemaTable) (start : State) (run : Run) → next (held start []) ≤ start.first + start.at → HasTrees table start → run.state ≡ start → run.log.config.items ≡ [] → run.log.oper.items ≡ [] → IsSound table start run
 begun-sound table start run within trees is config oper = record {
-  within = let at : run.state.at ≡ start.at = ap (λ (s : State). s.at) is in let version : next run.state.version ≡ next start.version = ap (λ (s : State). next s.version) is in omega (arith, at, version, within);
+  within = subst (λ (s : State). next (held s []) ≤ s.first + s.at) (sym is) within;
   trees = ap (λ (s : State). are_trees table s.config s.oper) is ∙ trees;
   config = ap (λ (s : State). s.config) is ∙ ap (patched start.config) (sym config);
   oper = ap (λ (s : State). s.oper) is ∙ ap (patched start.oper) (sym oper);

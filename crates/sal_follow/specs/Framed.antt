@@ -50,6 +50,14 @@ abbrev pub frames_from : ℕ → Trees → List Trees → List Frame
 frames_from k before [] = []
 frames_from k before (trees ∷ more) = frame_of k before trees ∷ frames_from (k + 1) trees more
 
+-- the frame with all rows of these trees
+abbrev pub snapshot : ℕ → Trees → Frame
+snapshot number trees = frame_of number nothing trees
+
+-- the frames of a stream that begins with the snapshot of the first of these trees, and goes on with those of the others
+abbrev pub stream_of : ℕ → List Trees → List Frame
+stream_of first trees = frames_from first nothing trees
+
 -- the frames of a domain: that of its opening, and those of its commits
 abbrev pub frames : List Trees → List Frame
 frames trees = frames_from 0 nothing trees
@@ -77,6 +85,10 @@ bytes_of table fs = flat_map (frame_bytes table) fs
 -- the frames of commits with these trees, one after another
 abbrev pub exported : SchemaTable → List Trees → List ℕ
 exported table trees = bytes_of table (frames trees)
+
+-- those of a stream that begins with the frame of this number
+abbrev pub streamed : SchemaTable → ℕ → List Trees → List ℕ
+streamed table first trees = bytes_of table (stream_of first trees)
 
 -- the commit of the first frame whose text is too long
 abbrev pub too_long : SchemaTable → List Frame → Option ℕ
@@ -108,3 +120,14 @@ ExportsOn table trees k number result = AreExported table (frames_on trees k num
 -- The result of `export_since`: the frames from the commit of this number on.
 abbrev pub ExportsSince : SchemaTable → List Trees → ℕ → Result (List ℕ) ExportFault → Type 0
 ExportsSince table trees k result = ExportsOn table trees k k result
+
+-- The result of `snapshot_of`: the frame with all rows of these trees.
+abbrev pub IsSnapshot : SchemaTable → ℕ → Trees → Result (List ℕ) ExportFault → Type 0
+IsSnapshot table number trees result = AreExported table (snapshot number trees ∷ []) result
+
+-- The result of `Follower::snapshot`: that of its commit; none before its first frame.
+abbrev pub IsSnapshotAt : SchemaTable → Option ℕ → Trees → Option (Result (List ℕ) ExportFault) → Type 0
+IsSnapshotAt table None trees None = ⊤
+IsSnapshotAt table None trees (Some result) = ⊥
+IsSnapshotAt table (Some number) trees None = ⊥
+IsSnapshotAt table (Some number) trees (Some result) = IsSnapshot table number trees result

@@ -1,5 +1,5 @@
 -- Laws of frames and streams.
-use Rattle.std.specs.Prelude.{◌≡◌, ℕ, ◌+◌, ◌≤◌, ◌<◌, ◌^◌, ⊤, true, false, List, [], ◌∷◌, ◌++◌, length, take, drop, Option, Some, None, IsTrue}
+use Rattle.std.specs.Prelude.{◌≡◌, ℕ, ◌+◌, ◌≤◌, ◌<◌, ◌^◌, ⊤, true, false, List, [], ◌∷◌, ◌++◌, length, take, drop, slice_index_or, Option, Some, None, IsTrue, Ok}
 use Rattle.std.specs.List.{All, fold, concat, slice_get}
 use Rattle.sal_types.specs.declared.value.Value.{Value}
 use Rattle.sal_types.specs.declared.value.Cell.{Cell}
@@ -15,11 +15,11 @@ use Rattle.sal_schema.specs.Paths.{fits_path, last_step, node_from, node_of}
 use Rattle.sal_schema.specs.Table.{is_kind, keys_of}
 use Rattle.sal_data.specs.Laws.{IsReadable}
 use Rattle.sal_follow.specs.declared.front.Front.TheVariants.{Whole}
-use Rattle.sal_follow.specs.Framed.{Trees, nothing, frames, frames_from, frames_since, bytes_of, exported, too_long, AreTexts}
+use Rattle.sal_follow.specs.Framed.{Trees, nothing, snapshot, frames_from, frames_on, frames_since, stream_of, bytes_of, exported, streamed, too_long, AreTexts, ExportsOn, IsSnapshot}
 use Rattle.sal_follow.specs.Frames.{path_in, cell_in}
 use Rattle.sal_follow.specs.Front.{front, text_in, size_of, framed}
 use Rattle.sal_follow.specs.Head.{max_text}
-use Rattle.sal_follow.specs.Stream.{Held, fresh, followed, has_state, taken}
+use Rattle.sal_follow.specs.Stream.{Held, fresh_at, followed, has_state, taken}
 use Rattle.sal_follow.specs.Written.{path_json, cell_json}
 
 -- The bytes of a frame, and whatever follows them, begin with this frame.
@@ -101,27 +101,41 @@ pub record AreFollowed (table : SchemaTable) (trees : Trees) : Type 0 where
 abbrev pub trees_held : Held → Trees
 trees_held h = record { config = h.config; oper = h.oper }
 
--- the trees of the commit of this number, or none before the opening
-abbrev pub AreTreesAt : List Trees → Option ℕ → Trees → Type 0
-AreTreesAt trees None held = held ≡ nothing
-AreTreesAt trees (Some k) held = slice_get trees k ≡ Some held
+-- the trees of the commit of this number, of trees that are numbered from `first` on; or none before the first frame
+abbrev pub AreTreesAt : ℕ → List Trees → Option ℕ → Trees → Type 0
+AreTreesAt first trees None held = held ≡ nothing
+AreTreesAt first trees (Some k) held = (j : ℕ) × (k ≡ first + j) × (slice_get trees j ≡ Some held)
 
 -- no fault, and the trees of the follower's commit
-abbrev pub HoldsOneOf : List Trees → Held → Type 0
-HoldsOneOf trees h = (h.fault ≡ None) × AreTreesAt trees h.version (trees_held h)
+abbrev pub HoldsOneOf : ℕ → List Trees → Held → Type 0
+HoldsOneOf first trees h = (h.fault ≡ None) × AreTreesAt first trees h.version (trees_held h)
 
--- A follower of a prefix of an export has no fault, and has the leader's trees at its commit.
-abbrev pub ExportsAreFollowed : Type 0
-ExportsAreFollowed =
-    (table : SchemaTable) (trees : List Trees) → All (AreFollowed table) trees → AreTexts table (frames trees) → too_long table (frames trees) ≡ None
-    → (bytes more : List ℕ) → bytes ++ more ≡ exported table trees → HoldsOneOf trees (followed table fresh bytes)
+-- A follower of a prefix of a stream has no fault, and has the leader's trees at its commit. The stream begins with any number, and with all rows
+-- of the first trees: an export is the stream from number 0 on.
+abbrev pub StreamsAreFollowed : Type 0
+StreamsAreFollowed =
+    (table : SchemaTable) (first : ℕ) (trees : List Trees) → All (AreFollowed table) trees → AreTexts table (stream_of first trees) → too_long table (stream_of first trees) ≡ None
+    → (bytes more : List ℕ) → bytes ++ more ≡ streamed table first trees → HoldsOneOf first trees (followed table (fresh_at first) bytes)
 
--- A follower of a whole export has the trees of the last commit, and no bytes of an incomplete frame.
+-- A follower of a whole stream has the trees of the last commit, and no bytes of an incomplete frame.
 abbrev pub HoldsTheLast : Type 0
 HoldsTheLast =
-    (table : SchemaTable) (trees : List Trees) (last : Trees) → All (AreFollowed table) (trees ++ last ∷ []) → AreTexts table (frames (trees ++ last ∷ [])) → too_long table (frames (trees ++ last ∷ [])) ≡ None
-    → followed table fresh (exported table (trees ++ last ∷ []))
-    ≡ record { version = Some (length trees); config = last.config; oper = last.oper; at = length (exported table (trees ++ last ∷ [])); rest = []; fault = None }
+    (table : SchemaTable) (first : ℕ) (trees : List Trees) (last : Trees) → All (AreFollowed table) (trees ++ last ∷ []) → AreTexts table (stream_of first (trees ++ last ∷ [])) → too_long table (stream_of first (trees ++ last ∷ [])) ≡ None
+    → followed table (fresh_at first) (streamed table first (trees ++ last ∷ []))
+    ≡ record { first = first; version = Some (first + length trees); config = last.config; oper = last.oper; at = length (streamed table first (trees ++ last ∷ [])); rest = []; fault = None }
+
+-- The snapshot of any of these commits, and then the frames of those after it, are a stream of the commits from it on, with any number.
+abbrev pub StreamsBeginAnywhere : Type 0
+StreamsBeginAnywhere =
+    (table : SchemaTable) (trees : List Trees) (k number : ℕ) → k < length trees
+    → bytes_of table (snapshot number (slice_index_or trees k nothing) ∷ []) ++ bytes_of table (frames_on trees (k + 1) (number + 1)) ≡ streamed table number (drop k trees)
+
+-- So a follower of what `snapshot_of` and then `export_on` return, or of a prefix, has the leader's trees at its commit.
+abbrev pub SnapshotsAreFollowed : Type 0
+SnapshotsAreFollowed =
+    (table : SchemaTable) (trees : List Trees) (k number : ℕ) (all after : List ℕ) → k < length trees → All (AreFollowed table) (drop k trees)
+    → IsSnapshot table number (slice_index_or trees k nothing) (Ok all) → ExportsOn table trees (k + 1) (number + 1) (Ok after)
+    → (bytes more : List ℕ) → bytes ++ more ≡ all ++ after → HoldsOneOf number (drop k trees) (followed table (fresh_at number) bytes)
 
 -- The frames of the commits before one of them, and then those from that one on, are the frames of all.
 abbrev pub StreamsGoOn : Type 0
@@ -131,12 +145,17 @@ StreamsGoOn = (table : SchemaTable) (trees : List Trees) (k : ℕ) → k ≤ len
 -- frames of all.
 abbrev pub StreamsGoOnAfter : Type 0
 StreamsGoOnAfter =
-    (table : SchemaTable) (trees : List Trees) (last : Trees) (more : List Trees) → exported table (trees ++ last ∷ []) ++ bytes_of table (frames_from (length trees + 1) last more) ≡ exported table (trees ++ last ∷ more)
+    (table : SchemaTable) (first : ℕ) (trees : List Trees) (last : Trees) (more : List Trees)
+    → streamed table first (trees ++ last ∷ []) ++ bytes_of table (frames_from (first + length trees + 1) last more) ≡ streamed table first (trees ++ last ∷ more)
 
 -- ---- offsets
 
--- The offset of the incomplete frame, plus its bytes, is at most the number of bytes received; without a fault they are equal.
+-- The number of the first frame stays. The offset of the incomplete frame, plus its bytes, is at most the number of bytes received; without a fault
+-- they are equal.
+pub record IsCounted (start : ℕ) (bytes : List ℕ) (h : Held) : Type 0 where
+  pub first : h.first ≡ start
+  pub most : h.at + length h.rest ≤ length bytes
+  pub exact : h.fault ≡ None → h.at + length h.rest ≡ length bytes
+
 abbrev pub PlacesCountBytes : Type 0
-PlacesCountBytes =
-    (table : SchemaTable) (bytes : List ℕ) → ((followed table fresh bytes).at + length (followed table fresh bytes).rest ≤ length bytes)
-    × ((followed table fresh bytes).fault ≡ None → (followed table fresh bytes).at + length (followed table fresh bytes).rest ≡ length bytes)
+PlacesCountBytes = (table : SchemaTable) (first : ℕ) (bytes : List ℕ) → IsCounted first bytes (followed table (fresh_at first) bytes)

@@ -1,5 +1,5 @@
 -- The code's state of a follower, as its definition.
-use Rattle.std.specs.Prelude.{◌≡◌, ◌⊎◌, ℕ, ◌≤◌, Option, Some, None, List, [], length, drop, Result, Err, true, ⊤, if◌then◌else◌}
+use Rattle.std.specs.Prelude.{◌≡◌, ◌⊎◌, ℕ, ◌+◌, ◌≤◌, Option, Some, None, List, [], length, drop, Result, Err, true, ⊤, if◌then◌else◌}
 use Rattle.sal_rows.specs.declared.rows.patch.Patch.{Patch}
 use Rattle.sal_rows.specs.Patch.{patched}
 use Rattle.sal_schema.specs.declared.table.SchemaTable.{SchemaTable}
@@ -17,7 +17,7 @@ use Rattle.sal_follow.specs.Stream.{Held, next, are_trees, followed, answer}
 
 -- with these bytes of an unfinished frame
 abbrev pub held : State → List ℕ → Held
-held s rest = record { version = s.version; config = s.config; oper = s.oper; at = s.at; rest = rest; fault = s.fault }
+held s rest = record { first = s.first; version = s.version; config = s.config; oper = s.oper; at = s.at; rest = rest; fault = s.fault }
 
 -- the trees after a frame, if they are trees of the schema
 abbrev pub trees_after : SchemaTable → Both → List Patch → List Patch → Option Both
@@ -28,9 +28,9 @@ pub record FrameFits (table : SchemaTable) (f : Frame) : Type 0 where
   pub config : patches_fit table f.config ≡ true
   pub oper : patches_fit table f.oper ≡ true
 
--- each frame has at least ten bytes, so the numbers of commits are below the offsets of their frames
+-- each frame has at least ten bytes, so the numbers of commits, counted from that of the first frame, are below the offsets of their frames
 abbrev pub IsWithin : State → Type 0
-IsWithin s = next s.version ≤ s.at
+IsWithin s = next (held s []) ≤ s.first + s.at
 
 -- the trees are trees of the schema
 abbrev pub HasTrees : SchemaTable → State → Type 0
@@ -58,9 +58,9 @@ pub record IsSound (table : SchemaTable) (start : State) (run : Run) : Type 0 wh
 abbrev pub StaysSound : Run → Run → Type 0
 StaysSound old new = (table : SchemaTable) (start : State) → IsSound table start old → IsSound table start new
 
--- before the stream
-abbrev pub nothing_held : State
-nothing_held = record { version = None; config = []; oper = []; at = 0; fault = None }
+-- before a stream that begins with the frame of this number
+abbrev pub nothing_held : ℕ → State
+nothing_held first = record { first = first; version = None; config = []; oper = []; at = 0; fault = None }
 
 -- after `used` of these bytes the state is s, and the remaining bytes are those of an incomplete frame
 pub record IsStepped (table : SchemaTable) (start : State) (bytes : List ℕ) (s : State) (used : ℕ) : Type 0 where

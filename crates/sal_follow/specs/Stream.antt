@@ -17,9 +17,10 @@ use Rattle.sal_follow.specs.declared.front.Front.TheVariants.{Part, Broken, Whol
 use Rattle.sal_follow.specs.Frames.{frame_in}
 use Rattle.sal_follow.specs.Front.{front, text_in, size_of}
 
--- The commit and its trees; the bytes of an incomplete frame, with the offset of the first of them in the stream; and the first
--- fault, after which nothing changes.
+-- The number of the stream's first frame; the commit and its trees; the bytes of an incomplete frame, with the offset of the first of them in the
+-- stream; and the first fault, after which nothing changes.
 pub record Held : Type 0 where
+  pub first : ℕ
   pub version : Option ℕ
   pub config : List Row
   pub oper : List Row
@@ -27,9 +28,13 @@ pub record Held : Type 0 where
   pub rest : List ℕ
   pub fault : Option FollowFault
 
--- before the stream
+-- before a stream that begins with the frame of this number
+abbrev pub fresh_at : ℕ → Held
+fresh_at first = record { first = first; version = None; config = []; oper = []; at = 0; rest = []; fault = None }
+
+-- before one that begins with frame 0
 abbrev pub fresh : Held
-fresh = record { version = None; config = []; oper = []; at = 0; rest = []; fault = None }
+fresh = fresh_at 0
 
 abbrev pub failed : Held → FollowFault → Held
 failed h fault = record h { rest = []; fault = Some fault }
@@ -37,8 +42,8 @@ failed h fault = record h { rest = []; fault = Some fault }
 -- ---- a frame
 
 -- the number of the next commit
-abbrev pub next : Option ℕ → ℕ
-next version = option_map_or (λ k. k + 1) version 0
+abbrev pub next : Held → ℕ
+next h = option_map_or (λ k. k + 1) h.version h.first
 
 abbrev pub has_state : SchemaTable → List Row → Bool
 has_state table rows = list_any (λ row. is_of_state table row.path) rows
@@ -48,7 +53,7 @@ abbrev pub are_trees : SchemaTable → List Row → List Row → Bool
 are_trees table config oper = (is_closed table config && not (has_state table config)) && is_closed table oper
 
 abbrev pub moved : Held → ℕ → ℕ → List Row → List Row → Held
-moved h size k config oper = record { version = Some k; config = config; oper = oper; at = h.at + size; rest = []; fault = None }
+moved h size k config oper = record { first = h.first; version = Some k; config = config; oper = oper; at = h.at + size; rest = []; fault = None }
 
 abbrev pub if_trees : SchemaTable → Held → ℕ → ℕ → List Row → List Row → Held
 if_trees table h size k config oper = if are_trees table config oper then moved h size k config oper else failed h (BadFrame h.at)
@@ -56,8 +61,8 @@ if_trees table h size k config oper = if are_trees table config oper then moved 
 -- each cell of the frame set or removed, if the frame is the next one
 abbrev pub if_next : SchemaTable → Held → ℕ → Frame → Held
 if_next table h size f =
-    if f.commit == next h.version then if_trees table h size f.commit (patched h.config f.config) (patched h.oper f.oper)
-    else failed h (Gap (next h.version) f.commit)
+    if f.commit == next h then if_trees table h size f.commit (patched h.config f.config) (patched h.oper f.oper)
+    else failed h (Gap (next h) f.commit)
 
 -- after the frame of this text, of `size` bytes
 abbrev pub taken : SchemaTable → Held → ℕ → List ℕ → Held

@@ -71,25 +71,51 @@ fn patches_of(alloc: Global, rows: &Rows) -> Result<Seq<Patch>, NoMemory>
     Ok(Seq::from_items(patches))
 }
 
+// The patches from no rows to these.
+fn all_patches(alloc: Global, rows: &Rows) -> Result<Seq<Patch>, NoMemory>
+    ensures { IfOk result (λ ps. ps ≡ spec.patches [] rows.now) }
+{
+    // For the proof alone: it says that the rows ascend.
+    let _ = rows.items();
+    let patches = patches_of(alloc, rows)?;
+    Ok(patches)
+}
+
 // The patches from no rows to the first tree.
 fn opening_patches(alloc: Global, root: &Root) -> Result<Seq<Patch>, NoMemory>
     ensures { IfOk result (λ ps. ps ≡ spec.patches [] (rows_of root.now)) }
 {
     let rows = root.rows(alloc, &Path::root(alloc))?;
-    // For the proof alone: it says that the rows ascend.
-    let _ = rows.items();
-    let patches = patches_of(alloc, &rows)?;
+    let patches = all_patches(alloc, &rows)?;
     Ok(patches)
 }
 
-// The frame of the opening.
-fn opening_frame(alloc: Global, trees: &Pair) -> Result<Frame, NoMemory>
-    ensures { IfOk result (λ f. f ≡ spec.frame_of 0 spec.nothing (spec.trees_of_pair trees.now)) }
+/// The frame with all rows of these trees, and this number.
+pub(crate) fn frame_of_rows(
+    alloc: Global,
+    commit: u64,
+    config: &Rows,
+    oper: &Rows,
+) -> Result<Frame, NoMemory>
+    ensures { IfOk result (λ f. f ≡ spec.snapshot commit (record { config = config.now; oper = oper.now })) }
+{
+    let config = all_patches(alloc, config)?;
+    let oper = all_patches(alloc, oper)?;
+    Ok(Frame {
+        commit,
+        config,
+        oper,
+    })
+}
+
+/// The same for the trees of a commit.
+pub(crate) fn snapshot_frame(alloc: Global, commit: u64, trees: &Pair) -> Result<Frame, NoMemory>
+    ensures { IfOk result (λ f. f ≡ spec.snapshot commit (spec.trees_of_pair trees.now)) }
 {
     let config = opening_patches(alloc, &trees.config)?;
     let oper = opening_patches(alloc, &trees.oper)?;
     Ok(Frame {
-        commit: 0,
+        commit,
         config,
         oper,
     })
@@ -118,7 +144,7 @@ pub(crate) fn frame_at(alloc: Global, commits: &[Commit], number: u64) -> Result
     let at = number as usize;
     let after = &commits[at].trees;
     if at == 0 {
-        opening_frame(alloc, after)
+        snapshot_frame(alloc, 0, after)
     } else {
         frame_between(alloc, number, &commits[at - 1].trees, after)
     }
@@ -176,7 +202,7 @@ pub(crate) fn frame_kept(alloc: Global, commits: &[Commit], number: u64) -> Resu
     let at = number as usize;
     let after = &commits[at];
     if at == 0 {
-        opening_frame(alloc, &after.trees)
+        snapshot_frame(alloc, 0, &after.trees)
     } else {
         frame_made(alloc, number, &commits[at - 1], after)
     }

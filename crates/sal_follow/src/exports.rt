@@ -1,20 +1,20 @@
 //! The frames of the commits of a domain.
-ghost use Rattle.std.specs.Prelude.{◌≡◌, ◌≤◌, ◌<◌, ◌+◌, ◌++◌, length, map, IfOk, OnOk};
+ghost use Rattle.std.specs.Prelude.{◌≡◌, ◌≤◌, ◌<◌, ◌+◌, ◌++◌, ◌∷◌, [], length, map, IfOk, OnOk};
 ghost use Rattle.sal_delta.specs.Agreed.{AreAgreed};
 ghost use Rattle.sal_graft.specs.Kept.{AreKept};
-ghost use Rattle.sal_follow.specs.Framed.{Exports, ExportsOn, ExportsSince, trees_of};
+ghost use Rattle.sal_follow.specs.Framed.{AreExported, Exports, ExportsOn, ExportsSince, IsSnapshot, trees_of, trees_of_pair};
 ghost use Rattle.sal_follow.specs.Front.{framed};
 ghost use Rattle.sal_follow.specs.Head.{max_text};
 ghost use Rattle.sal_follow.specs.Exporting.{Puts, frame_at as frame_of_number, frame_on};
 
-use crate::commits::{frame_at, frame_kept};
+use crate::commits::{frame_at, frame_kept, snapshot_frame};
 use crate::fault::ExportFault;
 use crate::frame::Frame;
 use crate::head::{MAX_TEXT, push_head};
 use crate::next::NextFrame;
 use crate::writer::Writer;
 use sal_schema::Schema;
-use sal_tree::Commit;
+use sal_tree::{Commit, Pair};
 use sal_types::{Bytes, NoMemory, Seq};
 use std::alloc::Global;
 
@@ -149,4 +149,32 @@ pub fn export_on(
         number = following(number)?;
     }
     Ok(Seq::from_items(bytes))
+}
+
+/// The bytes of one frame.
+pub(crate) fn frame_alone(
+    alloc: Global,
+    schema: &Schema,
+    frame: &Frame,
+) -> Result<Bytes, ExportFault>
+    ensures { AreExported schema.now (frame.now ∷ []) result }
+{
+    let writer = Writer { alloc, schema };
+    let mut bytes = Vec::new(alloc);
+    push_text(&mut bytes, &writer, frame)?;
+    Ok(Seq::from_items(bytes))
+}
+
+/// The frame with all rows of these trees, and this number: a stream may begin with it (`Follower::before`), and goes on with the frames of the
+/// commits after (`export_on`).
+pub fn snapshot_of(
+    alloc: Global,
+    schema: &Schema,
+    trees: &Pair,
+    number: u64,
+) -> Result<Bytes, ExportFault>
+    ensures { IsSnapshot schema.now number (trees_of_pair trees.now) result }
+{
+    let frame = snapshot_frame(alloc, number, trees)?;
+    frame_alone(alloc, schema, &frame)
 }

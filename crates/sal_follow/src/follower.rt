@@ -2,12 +2,16 @@
 ghost use Rattle.std.specs.Prelude.{◌≡◌, ◌<◌, ◌≤◌, ◌+◌, ◌^◌, ◌++◌, length, drop, take, true, None, [], IfOk, OnOk, OnErr, MatchResult};
 ghost use Rattle.sal_json.specs.Patterns.{patterns_of};
 ghost use Rattle.sal_follow.specs.Leader.{KeepsUp};
-ghost use Rattle.sal_follow.specs.Stream.{answer, are_trees, fresh, rows_held};
+ghost use Rattle.sal_follow.specs.Framed.{IsSnapshot, IsSnapshotAt};
+ghost use Rattle.sal_follow.specs.Laws.{trees_held};
+ghost use Rattle.sal_follow.specs.Stream.{answer, are_trees, fresh, fresh_at, rows_held};
 ghost use Rattle.sal_follow.specs.States.{Feeds, IsGained, IsJudged, IsTwin, held};
 ghost use Rattle.sal_follow.specs.Front.{front};
 ghost use Rattle.sal_follow.specs.declared.front.Front.TheVariants.{Part};
 
-use crate::fault::FollowFault;
+use crate::commits::frame_of_rows;
+use crate::exports::frame_alone;
+use crate::fault::{ExportFault, FollowFault};
 use crate::front::{Front, front_of};
 use crate::reader::Reader;
 use crate::state::State;
@@ -17,7 +21,7 @@ use sal_history::{Device, Opening};
 use sal_json::Patterns;
 use sal_rows::Rows;
 use sal_schema::Schema;
-use sal_types::{NoMemory, Store};
+use sal_types::{Bytes, NoMemory, Store};
 use std::alloc::Global;
 use std::marker::Model;
 use std::sync::Arc;
@@ -85,7 +89,7 @@ fn judged(
 ) -> Result<(), NoMemory>
     requires twin { IsTwin reader.now.schema.now twin.old }
     requires going { twin.old.state.fault ≡ None }
-    requires room { twin.old.state.at + length rest.old.items < 2 ^ 64 }
+    requires room { twin.old.state.first + twin.old.state.at + length rest.old.items < 2 ^ 64 }
     ensures told { MatchResult result (λ _. IsJudged reader.now.schema.now twin.old.state rest.old.items twin.new.state rest.new.items) (λ _. (rest.new.items ≡ take before rest.old.items) × (twin.new.state ≡ twin.old.state)) }
     ensures twin { IsTwin reader.now.schema.now twin.new }
 {
@@ -111,7 +115,7 @@ fn gained(
     requires twin { IsTwin reader.now.schema.now twin.old }
     requires going { twin.old.state.fault ≡ None }
     requires part { front rest.old.items ≡ Part }
-    requires room { twin.old.state.at + length rest.old.items + length piece.now < 2 ^ 64 }
+    requires room { twin.old.state.first + twin.old.state.at + length rest.old.items + length piece.now < 2 ^ 64 }
     ensures told { MatchResult result (λ _. IsGained reader.now.schema.now twin.old.state rest.old.items piece.now twin.new.state rest.new.items) (λ _. (rest.new.items ≡ rest.old.items) × (twin.new.state ≡ twin.old.state)) }
     ensures twin { IsTwin reader.now.schema.now twin.new }
 {
@@ -137,26 +141,39 @@ fn answered(state: &State) -> Result<Option<u64>, FollowFault>
 }
 
 impl Follower {
-    /// A follower at the start of a stream.
+    /// A follower at the start of a stream that begins with frame 0.
     pub fn new(alloc: Global, schema: Arc<Schema>, patterns: Patterns) -> Result<Follower, NoMemory>
         requires { patterns ≡ patterns_of schema.value }
         ensures { IfOk result (λ f. f ≡ record { schema = schema.value; held = fresh }) }
+    {
+        Follower::before(alloc, schema, patterns, 0)
+    }
+
+    /// A follower at the start of a stream that begins with the frame of this number, which has all rows (`snapshot_of`).
+    pub fn before(
+        alloc: Global,
+        schema: Arc<Schema>,
+        patterns: Patterns,
+        first: u64,
+    ) -> Result<Follower, NoMemory>
+        requires { patterns ≡ patterns_of schema.value }
+        ensures { IfOk result (λ f. f ≡ record { schema = schema.value; held = fresh_at first }) }
     {
         Ok(Follower {
             alloc,
             schema,
             patterns,
-            twin: Twin::new(alloc),
+            twin: Twin::before(alloc, first),
             rest: Vec::new(alloc),
         })
     }
 
-    /// Takes the next piece of the stream, and returns the follower's commit, none before frame 0.
+    /// Takes the next piece of the stream, and returns the follower's commit, none before the first frame.
     ///
     /// If memory runs out, nothing of the piece was taken. After another fault the follower keeps the last valid commit, and returns this fault
     /// from then on.
     pub fn feed(&mut self, piece: &[u8]) -> Result<Option<u64>, FollowFault>
-        requires { self.old.held.at + length self.old.held.rest + length piece.now < 2 ^ 64 }
+        requires { self.old.held.first + self.old.held.at + length self.old.held.rest + length piece.now < 2 ^ 64 }
         ensures taken { Feeds piece.now self.old self.new result }
         ensures leader { KeepsUp piece.now self.old self.new result }
     {
@@ -165,7 +182,7 @@ impl Follower {
 
     // The same, by the bytes alone.
     fn take(&mut self, piece: &[u8]) -> Result<Option<u64>, FollowFault>
-        requires { self.old.held.at + length self.old.held.rest + length piece.now < 2 ^ 64 }
+        requires { self.old.held.first + self.old.held.at + length self.old.held.rest + length piece.now < 2 ^ 64 }
         ensures { Feeds piece.now self.old self.new result }
     {
         if let Some(fault) = self.twin.state.fault {
@@ -193,6 +210,25 @@ impl Follower {
             Store::Config => &self.twin.state.config,
             Store::Oper => &self.twin.state.oper,
         }
+    }
+
+    /// The frame of its commit with all rows, with which another stream may begin; none before its first frame.
+    pub fn snapshot(&self) -> Option<Result<Bytes, ExportFault>>
+        ensures { IsSnapshotAt self.now.schema self.now.held.version (trees_held self.now.held) result }
+    {
+        match self.twin.state.version {
+            Some(number) => Some(self.snapshot_as(number)),
+            None => None,
+        }
+    }
+
+    // The frame with all rows of its trees, and this number.
+    fn snapshot_as(&self, number: u64) -> Result<Bytes, ExportFault>
+        ensures { IsSnapshot self.now.schema number (trees_held self.now.held) result }
+    {
+        let State { config, oper, .. } = &self.twin.state;
+        let frame = frame_of_rows(self.alloc, number, config, oper)?;
+        frame_alone(self.alloc, &self.schema, &frame)
     }
 
     /// The number of bytes of an incomplete frame; 0 after a fault. It takes no memory.

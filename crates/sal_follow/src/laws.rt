@@ -1,5 +1,5 @@
 //! Laws of the definitions. A call does nothing: its clauses are the laws.
-ghost use Rattle.sal_follow.specs.Laws.{CellsReadAsWritten, ExportsAreFollowed, FramesAreRead, HoldsTheLast, PathsReadAsWritten, PiecesDoNotMatter, PlacesCountBytes, StreamsGoOn, StreamsGoOnAfter, TakesWholeFrames};
+ghost use Rattle.sal_follow.specs.Laws.{CellsReadAsWritten, FramesAreRead, HoldsTheLast, PathsReadAsWritten, PiecesDoNotMatter, PlacesCountBytes, SnapshotsAreFollowed, StreamsAreFollowed, StreamsBeginAnywhere, StreamsGoOn, StreamsGoOnAfter, TakesWholeFrames};
 
 /// A frame is read from its first byte, whatever follows it.
 pub fn frames_are_read()
@@ -22,11 +22,17 @@ pub fn rows_read_as_written()
     ensures cells { CellsReadAsWritten }
 {}
 
-/// A follower of an export, or of a prefix of one, has no fault, and has the leader's trees at its commit; after the whole
-/// export these are the trees of the last commit.
-pub fn exports_are_followed()
-    ensures followed { ExportsAreFollowed }
+/// A follower of a stream, or of a prefix of one, has no fault, and has the leader's trees at its commit; after the whole
+/// stream these are the trees of the last commit.
+pub fn streams_are_followed()
+    ensures followed { StreamsAreFollowed }
     ensures last { HoldsTheLast }
+{}
+
+/// A stream may begin with the snapshot of any commit, and then has the frames of the commits after it. A follower of it has the leader's trees.
+pub fn streams_begin_anywhere()
+    ensures stream { StreamsBeginAnywhere }
+    ensures followed { SnapshotsAreFollowed }
 {}
 
 /// A stream of the frames before a commit continues with the frames from that commit on (`export_since`).

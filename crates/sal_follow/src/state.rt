@@ -15,9 +15,10 @@ use sal_rows::Rows;
 use sal_types::NoMemory;
 use std::alloc::Global;
 
-/// The follower's commit and its trees, the offset of the end of its frame in the stream, and the first fault.
+/// The number of the stream's first frame, the follower's commit and its trees, the offset of the end of its frame in the stream, and the first fault.
 #[derive(Drop)]
 pub(crate) struct State {
+    pub(crate) first: u64,
     pub(crate) version: Option<u64>,
     pub(crate) config: Rows,
     pub(crate) oper: Rows,
@@ -32,6 +33,13 @@ pub(crate) struct Run {
     pub(crate) log: Log,
 }
 
+// The number of the stream's first frame, and the offset of the next one.
+#[derive(Clone, Copy, Drop)]
+struct Place {
+    first: u64,
+    at: u64,
+}
+
 // A frame, and the number of its bytes.
 #[derive(Drop)]
 struct Came {
@@ -42,11 +50,12 @@ struct Came {
 // The same with a fault.
 fn failed(state: State, fault: FollowFault) -> State
     ensures held { held result [] ≡ spec.failed (held state []) fault }
-    ensures at { result.at ≡ state.at }
+    ensures at { (result.first ≡ state.first) × (result.at ≡ state.at) }
     ensures trees { (result.config ≡ state.config) × (result.oper ≡ state.oper) }
     ensures version { result.version ≡ state.version }
 {
     State {
+        first: state.first,
         version: state.version,
         config: state.config,
         oper: state.oper,
@@ -58,18 +67,19 @@ fn failed(state: State, fault: FollowFault) -> State
 // The number of the next commit.
 fn next(state: &State) -> u64
     requires within { IsWithin state.now }
-    ensures { result ≡ spec.next state.now.version }
+    requires room { state.now.first + state.now.at < 2 ^ 64 }
+    ensures { result ≡ spec.next (held state.now []) }
 {
     match state.version {
         Some(number) => number + 1,
-        None => 0,
+        None => state.first,
     }
 }
 
 // The same run with a fault.
 fn stopped(run: Run, fault: FollowFault) -> Run
     ensures held { held result.state [] ≡ spec.failed (held run.state []) fault }
-    ensures at { result.state.at ≡ run.state.at }
+    ensures at { (result.state.first ≡ run.state.first) × (result.state.at ≡ run.state.at) }
     ensures sound { StaysSound run result }
 {
     let Run { state, log } = run;
@@ -80,8 +90,8 @@ fn stopped(run: Run, fault: FollowFault) -> Run
 }
 
 // The run with the trees after a frame.
-fn moved(both: Both, log: Log, at: u64, frame: Frame) -> Result<Run, NoMemory>
-    ensures state { IfOk result (λ run. run.state ≡ record { version = Some frame.commit; config = both.config; oper = both.oper; at = at; fault = None }) }
+fn moved(both: Both, log: Log, place: Place, frame: Frame) -> Result<Run, NoMemory>
+    ensures state { IfOk result (λ run. run.state ≡ record { first = place.first; version = Some frame.commit; config = both.config; oper = both.oper; at = place.at; fault = None }) }
     ensures config { IfOk result (λ run. run.log.config.items ≡ log.config.items ++ frame.config) }
     ensures oper { IfOk result (λ run. run.log.oper.items ≡ log.oper.items ++ frame.oper) }
 {
@@ -93,10 +103,11 @@ fn moved(both: Both, log: Log, at: u64, frame: Frame) -> Result<Run, NoMemory>
     let log = longer(log, config, oper)?;
     Ok(Run {
         state: State {
+            first: place.first,
             version: Some(commit),
             config: both.config,
             oper: both.oper,
-            at,
+            at: place.at,
             fault: None,
         },
         log,
@@ -113,17 +124,18 @@ fn again(alloc: Global, start: &State, log: &Log) -> Result<Both, NoMemory>
 }
 
 // The run at the last valid commit, with these trees.
-fn spoiled(both: Both, log: Log, version: Option<u64>, at: u64) -> Run
-    ensures state { result.state ≡ record { version = version; config = both.config; oper = both.oper; at = at; fault = Some (BadFrame at) } }
+fn spoiled(both: Both, log: Log, version: Option<u64>, place: Place) -> Run
+    ensures state { result.state ≡ record { first = place.first; version = version; config = both.config; oper = both.oper; at = place.at; fault = Some (BadFrame place.at) } }
     ensures log { result.log ≡ log }
 {
     Run {
         state: State {
+            first: place.first,
             version,
             config: both.config,
             oper: both.oper,
-            at,
-            fault: Some(FollowFault::BadFrame { at }),
+            at: place.at,
+            fault: Some(FollowFault::BadFrame { at: place.at }),
         },
         log,
     }
@@ -133,25 +145,32 @@ fn spoiled(both: Both, log: Log, version: Option<u64>, at: u64) -> Run
 fn after_next(reader: &Reader, start: &State, run: Run, came: Came) -> Result<Run, NoMemory>
     requires sound { IsSound reader.now.schema.now start.now run }
     requires fits { FrameFits reader.now.schema.now came.frame }
-    requires room { run.state.at + came.size < 2 ^ 64 }
+    requires room { run.state.first + run.state.at + came.size < 2 ^ 64 }
     requires some { 0 < came.size }
-    requires next { came.frame.commit ≡ spec.next run.state.version }
+    requires next { came.frame.commit ≡ spec.next (held run.state []) }
     ensures held { IfOk result (λ it. held it.state [] ≡ spec.if_trees reader.now.schema.now (held run.state []) came.size came.frame.commit (patched run.state.config came.frame.config) (patched run.state.oper came.frame.oper)) }
     ensures sound { IfOk result (λ it. IsSound reader.now.schema.now start.now it) }
-    ensures at { IfOk result (λ it. it.state.at ≤ run.state.at + came.size) }
+    ensures at { IfOk result (λ it. it.state.first + it.state.at ≤ run.state.first + run.state.at + came.size) }
 {
     let Run { state, log } = run;
     let Came { frame, size } = came;
     let version = state.version;
-    let at = state.at;
+    let place = Place {
+        first: state.first,
+        at: state.at,
+    };
     match trees_after(reader.alloc, reader.schema, both_of(state), &frame)? {
         Some(both) => {
-            let next = moved(both, log, at + size, frame)?;
+            let behind = Place {
+                first: place.first,
+                at: place.at + size,
+            };
+            let next = moved(both, log, behind, frame)?;
             Ok(next)
         }
         None => {
             let both = again(reader.alloc, start, &log)?;
-            Ok(spoiled(both, log, version, at))
+            Ok(spoiled(both, log, version, place))
         }
     }
 }
@@ -161,11 +180,11 @@ fn after_frame(reader: &Reader, start: &State, run: Run, came: Came) -> Result<R
     requires sound { IsSound reader.now.schema.now start.now run }
     requires fits { FrameFits reader.now.schema.now came.frame }
     requires going { run.state.fault ≡ None }
-    requires room { run.state.at + came.size < 2 ^ 64 }
+    requires room { run.state.first + run.state.at + came.size < 2 ^ 64 }
     requires some { 0 < came.size }
     ensures held { IfOk result (λ it. held it.state [] ≡ spec.if_next reader.now.schema.now (held run.state []) came.size came.frame) }
     ensures sound { IfOk result (λ it. IsSound reader.now.schema.now start.now it) }
-    ensures at { IfOk result (λ it. it.state.at ≤ run.state.at + came.size) }
+    ensures at { IfOk result (λ it. it.state.first + it.state.at ≤ run.state.first + run.state.at + came.size) }
 {
     let want = next(&run.state);
     let got = came.frame.commit;
@@ -179,10 +198,10 @@ fn after_frame(reader: &Reader, start: &State, run: Run, came: Came) -> Result<R
 fn taken(reader: &Reader, start: &State, run: Run, text: &[u8]) -> Result<Run, NoMemory>
     requires sound { IsSound reader.now.schema.now start.now run }
     requires going { run.state.fault ≡ None }
-    requires room { run.state.at + length text.now + 10 < 2 ^ 64 }
+    requires room { run.state.first + run.state.at + length text.now + 10 < 2 ^ 64 }
     ensures held { IfOk result (λ it. held it.state [] ≡ spec.taken reader.now.schema.now (held run.state []) (size_of (length text.now)) text.now) }
     ensures sound { IfOk result (λ it. IsSound reader.now.schema.now start.now it) }
-    ensures at { IfOk result (λ it. it.state.at ≤ run.state.at + (length text.now + 10)) }
+    ensures at { IfOk result (λ it. it.state.first + it.state.at ≤ run.state.first + run.state.at + (length text.now + 10)) }
 {
     match reader.frame_in(text)? {
         Some(frame) => {
@@ -213,7 +232,7 @@ pub(crate) fn advanced(
 ) -> Result<(Run, usize), NoMemory>
     requires sound { IsSound reader.now.schema.now start.now run }
     requires going { run.state.fault ≡ None }
-    requires room { run.state.at + length bytes.now < 2 ^ 64 }
+    requires room { run.state.first + run.state.at + length bytes.now < 2 ^ 64 }
     ensures stepped { IfOk result (λ r. IsStepped reader.now.schema.now run.state bytes.now r.0.state r.1) }
     ensures sound { IfOk result (λ r. IsSound reader.now.schema.now start.now r.0) }
 {

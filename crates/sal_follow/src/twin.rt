@@ -20,13 +20,14 @@ pub(crate) struct Twin {
 }
 
 impl Twin {
-    /// The state before the stream.
-    pub(crate) fn new(alloc: Global) -> Twin
-        ensures state { result.state ≡ nothing_held }
+    /// The state before a stream that begins with the frame of this number.
+    pub(crate) fn before(alloc: Global, first: u64) -> Twin
+        ensures state { result.state ≡ nothing_held first }
         ensures spare { IsSpare result.state result.spare }
     {
         Twin {
             state: State {
+                first,
                 version: None,
                 config: Rows::new(alloc),
                 oper: Rows::new(alloc),
@@ -70,6 +71,7 @@ fn begun(alloc: Global, state: &State, spare: Option<Both>) -> Result<Run, NoMem
     let Both { config, oper } = trees_of(state, spare)?;
     Ok(Run {
         state: State {
+            first: state.first,
             version: state.version,
             config,
             oper,
@@ -94,7 +96,7 @@ fn run_over(
     requires within { IsWithin state.now }
     requires trees { HasTrees reader.now.schema.now state.now }
     requires going { state.now.fault ≡ None }
-    requires room { state.now.at + length bytes.now < 2 ^ 64 }
+    requires room { state.now.first + state.now.at + length bytes.now < 2 ^ 64 }
     ensures stepped { IfOk result (λ r. IsStepped reader.now.schema.now state.now bytes.now r.0.state r.1) }
     ensures sound { IfOk result (λ r. IsSound reader.now.schema.now state.now r.0) }
 {
@@ -118,7 +120,7 @@ fn settle(twin: &mut Twin, run: Run)
 pub(crate) fn stepped(reader: &Reader, twin: &mut Twin, bytes: &[u8]) -> Result<usize, NoMemory>
     requires twin { IsTwin reader.now.schema.now twin.old }
     requires going { twin.old.state.fault ≡ None }
-    requires room { twin.old.state.at + length bytes.now < 2 ^ 64 }
+    requires room { twin.old.state.first + twin.old.state.at + length bytes.now < 2 ^ 64 }
     ensures told { MatchResult result (IsStepped reader.now.schema.now twin.old.state bytes.now twin.new.state) (λ _. twin.new.state ≡ twin.old.state) }
     ensures twin { IsTwin reader.now.schema.now twin.new }
 {

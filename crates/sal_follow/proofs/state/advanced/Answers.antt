@@ -52,7 +52,7 @@ loop-used-preserved c =
     let len : length c.text_of.result.now ≡ n = ap length text ∙ text-length (drop l.used bytes) n whole in
     let there : n + 9 < length (drop l.used bytes) = (whole-there (drop l.used bytes) n whole).0 in
     let size : length (drop l.used bytes) ≡ length bytes - l.used = length-drop l.used bytes in
-    let at : c.in_ok-run-in-Whole.run'.state.at ≤ l.run.state.at + (length c.text_of.result.now + 10) = c.in_ok-run-in-Whole.ensures.at in
+    let at : c.in_ok-run-in-Whole.run'.state.first + c.in_ok-run-in-Whole.run'.state.at ≤ l.run.state.first + l.run.state.at + (length c.text_of.result.now + 10) = c.in_ok-run-in-Whole.ensures.at in
     let room = l.invariant.4 in
     let inside = l.invariant.3 in (
       one_more c.args.reader.now.schema.now l.run.state c.in_ok-run-in-Whole.run'.state bytes c.text_of.result.now l.used n l.invariant.1 whole text c.in_ok-run-in-Whole.ensures.held ∙ l.invariant.0,

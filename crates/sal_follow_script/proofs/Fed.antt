@@ -4,7 +4,7 @@ use Rattle.std.specs.Option.{option_map_or}
 use Rattle.std.proofs.lemmas.List.{length-take, take_all}
 use Rattle.sal_follow.specs.declared.fault.FollowFault.{FollowFault}
 use Rattle.sal_follow.specs.declared.fault.FollowFault.TheVariants.{BadFrame, Gap, NoMemory}
-use Rattle.sal_follow.specs.Laws.{PlacesCountBytes}
+use Rattle.sal_follow.specs.Laws.{IsCounted, PlacesCountBytes}
 use Rattle.sal_follow.specs.States.{Following, Feeds}
 use Rattle.sal_follow.specs.Stream.{Held, answer, followed, fresh}
 use Rattle.sal_follow.proofs.Counted.{joined}
@@ -27,14 +27,16 @@ none_fed stream start is = record {
 
 -- there is room for a piece
 pub has_room : PlacesCountBytes → (stream : List ℕ) (start now : Following) (fed piece : ℕ) → IsFed stream start now fed → fed + piece ≤ length stream → length stream < 2 ^ 64
-    → now.held.at + length now.held.rest + piece < 2 ^ 64
+    → now.held.first + now.held.at + length now.held.rest + piece < 2 ^ 64
 has_room places stream start now fed piece is inside small =
     let taken : List ℕ = take fed stream in
-    let counted = (places start.schema taken).0 in
+    let counted = places start.schema 0 taken in
     let long : length taken ≤ fed = omega (arith, length-take fed stream) in
     let same : now.held ≡ followed start.schema fresh taken = ap (λ (f : Following). f.held) is.held in
-    let bound : now.held.at + length now.held.rest ≤ length taken = subst (λ (h : Held). h.at + length h.rest ≤ length taken) (sym same) counted in
-    omega (arith, bound, long, inside, small)
+    let now_counted : IsCounted 0 taken now.held = subst (IsCounted 0 taken) (sym same) counted in
+    let first = now_counted.first in
+    let bound = now_counted.most in
+    omega (arith, first, bound, long, inside, small)
 
 take_none : (n : ℕ) → take {A = ℕ} n [] ≡ []
 take_none zero = refl
@@ -117,4 +119,4 @@ pub counted : PlacesCountBytes → (stream : List ℕ) (old new : Following) →
 counted places stream old new taken =
     let same : new.held ≡ followed old.schema fresh stream = ap (λ (f : Following). f.held) taken.0 in
     let none : (followed old.schema fresh stream).fault ≡ None = sym (ap (λ (h : Held). h.fault) same) ∙ taken.1 in
-    ap (λ (h : Held). h.at + length h.rest) same ∙ (places old.schema stream).1 none
+    ap (λ (h : Held). h.at + length h.rest) same ∙ (places old.schema 0 stream).exact none

@@ -19,11 +19,11 @@ use Rattle.sal_hub.specs.Openings.{AreClosedDevices, IsFaultOf, fault_of, state_
 use Rattle.sal_follow.specs.Laws.{AreTreesAt, trees_held}
 use Rattle.sal_follow.specs.States.{Following}
 use Rattle.sal_follow.specs.Stream.{has_state, are_trees}
-use Rattle.sal_follow.proofs.Followed.{exports_followed}
+use Rattle.sal_follow.proofs.Followed.{streams_followed}
 use Rattle.sal_resume.specs.Resumed.{domain_held, world_held, resumed, KeepsTheRules, OpensAtTheLeader}
 
 pub opens-at : (rules : Rules) (f : Following) → OpensAtTheLeader f (world_held rules f)
-opens-at rules f trees bytes more all texts short came prefix = subst (λ h. AreTreesAt trees h.version (trees_held h)) (sym came) (exports_followed f.schema trees all texts short bytes more prefix).1
+opens-at rules f first trees bytes more all texts short came prefix = subst (λ h. AreTreesAt first trees h.version (trees_held h)) (sym came) (streams_followed f.schema first trees all texts short bytes more prefix).1
 
 -- ---- the device of a follower
 

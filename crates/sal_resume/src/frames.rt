@@ -3,11 +3,12 @@ ghost use Rattle.std.specs.Prelude.{◌≡◌, ◌<◌, length, map};
 ghost use Rattle.sal_graft.specs.Kept.{AreKept};
 ghost use Rattle.sal_history.specs.History.{history};
 ghost use Rattle.sal_history.specs.Versions.{tables_now};
-ghost use Rattle.sal_follow.specs.Framed.{Exports, ExportsOn, ExportsSince, trees_of};
+ghost use Rattle.sal_follow.specs.Framed.{Exports, ExportsOn, ExportsSince, IsSnapshot, trees_of};
 ghost use Rattle.sal_resume.specs.Committed.{committed};
+ghost use Rattle.sal_resume.specs.Newest.{newest};
 
 use sal_commit::Domain;
-use sal_follow::{ExportFault, NextFrame, export_on};
+use sal_follow::{ExportFault, NextFrame, export_on, snapshot_of};
 use sal_hub::Hub;
 use sal_schema::Schema;
 use sal_types::Bytes;
@@ -64,4 +65,20 @@ pub fn frames_on(
 {
     let domain = &hub.domains()[domain as usize];
     domain_frames(alloc, &domain.schema, domain, next)
+}
+
+/// The frame with all rows of the domain's newest commit, and this number: a stream may begin with it, and goes on with `frames_on` from the next
+/// commit on (`laws::streams_begin_anywhere` of `sal_follow`).
+pub fn snapshot_of_newest(
+    alloc: Global,
+    hub: &Hub,
+    domain: u32,
+    number: u64,
+) -> Result<Bytes, ExportFault>
+    requires { domain < length hub.now.world }
+    ensures { IsSnapshot (tables_now hub.now.world (history hub.now.world hub.now.log) domain) number (newest hub.now domain) result }
+{
+    let trees = hub.trees_of(domain);
+    let domain = &hub.domains()[domain as usize];
+    snapshot_of(alloc, &domain.schema, trees, number)
 }

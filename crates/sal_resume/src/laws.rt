@@ -1,6 +1,6 @@
 //! Laws of the definitions. A call does nothing: its clause is the law.
 ghost use Rattle.sal_resume.specs.Newest.{FramesLeadToTheNewest};
-ghost use Rattle.sal_resume.specs.OverEpochs.{StreamsGoOnOverEpochs};
+ghost use Rattle.sal_resume.specs.OverEpochs.{StreamsGoOnOverEpochs, StreamsGoOnOverHubs};
 
 /// A follower of the frames of a domain has its newest commit, and the newest trees.
 pub fn frames_lead_to_the_newest()
@@ -10,4 +10,10 @@ pub fn frames_lead_to_the_newest()
 /// A stream that ends with the newest trees of a hub continues with the frames of the next hub from commit 1 on, for any calls to it.
 pub fn streams_go_on_over_epochs()
     ensures { StreamsGoOnOverEpochs }
+{}
+
+/// A stream that ends with the trees with which a hub opens continues with the frames of this hub from commit 1 on, for any calls to it: as from one
+/// leader to the next.
+pub fn streams_go_on_over_hubs()
+    ensures { StreamsGoOnOverHubs }
 {}

@@ -3,7 +3,7 @@ use Rattle.std.proofs.Common.{◌≡◌, ℕ, zero, suc, ◌-◌, ◌<◌, true,
 use Rattle.std.specs.Prelude.{slice_get}
 use Rattle.std.specs.Option.{option_map}
 use Rattle.std.proofs.lemmas.List.{length-map}
-use Rattle.std.proofs.lemmas.Option.{slice_get-map}
+use Rattle.std.proofs.lemmas.Option.{slice_get-map, slice_get_within}
 use Rattle.sal_types.specs.declared.value.Store.{Store}
 use Rattle.sal_rows.specs.Commits.{tree_after}
 use Rattle.sal_rows.specs.Clash.{tip}
@@ -20,7 +20,7 @@ use Rattle.sal_hub.specs.Domains.{AreDomains, IsDomain}
 use Rattle.sal_hub.specs.Journals.{Noted}
 use Rattle.sal_hub.specs.HubHistory.{HubHistory}
 use Rattle.sal_hub.specs.PipelineView.{AllKept, is_live_in, queue_of, opened_as, shown, world_in}
-use Rattle.sal_hub.proofs.Deciding.{live-here, last-at, live-within, opening-at, table-at}
+use Rattle.sal_hub.proofs.Deciding.{live-here, last-at, live-within, opening-at, table-at, version-here}
 use Rattle.sal_hub.proofs.Keeping.{chains-current, commits-current, receipts-current}
 use Rattle.sal_hub.proofs.Listed.{slice_get_at}
 
@@ -60,6 +60,7 @@ module _ (journal : Noted) (p : Pipeline) (is : IsKept journal p) where
           live = sym (live-here (queue_of p).domains n (shown d) here) ∙ is.current.live n;
           schema = sym (table-at (queue_of p).domains n (shown d) here) ∙ is.current.tables n;
           last = sym (last-at (queue_of p).domains n (shown d) here);
+          version = sym (version-here (queue_of p).domains n (shown d) here) ∙ is.current.versions n (slice_get_within (queue_of p).domains n (shown d) here);
           kept = kept_at p.domains.items n d is.kept h at;
           opening = λ i s. sym (opening-at (queue_of p).domains n (shown d) s here) i;
           commits = stored.commits ∙ commits-current journal.log journal.marks (queue_of p) n is.current;

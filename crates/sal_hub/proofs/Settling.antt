@@ -11,7 +11,7 @@ use Rattle.sal_history.specs.declared.call.Entry.{Entry}
 use Rattle.sal_history.specs.declared.reply.Reply.{Reply}
 use Rattle.sal_history.specs.declared.reply.Reply.TheVariants.{Decided, Nothing, Settled}
 use Rattle.sal_history.specs.World.{Domain}
-use Rattle.sal_history.specs.History.{Answered, decide_front, decide_next, decided_by, entries_of, history, is_live, opened_chain, outcome, outcomes, pumped, reply_to, sent_by, sents, settled, spends}
+use Rattle.sal_history.specs.History.{Answered, decide_front, decide_next, decided_by, entries_of, history, is_live, opened_chain, outcome, outcomes, pending, pumped, reply_to, sent_by, sents, settled, spends}
 use Rattle.sal_history.specs.Numbered.{numbered}
 use Rattle.sal_history.specs.Services.{mount_call}
 use Rattle.sal_history.specs.Submissions.{Sent}
@@ -54,6 +54,14 @@ cancel_kept journal journal' p is client place log marks =
 pub few : (journal : Noted) (p : Pipeline) → IsKept journal p → p.gone + length p.waiting.items ≤ length journal.log
 few journal p is =
     omega (arith, length-submissions journal.log journal.marks (queue_of p) is.current, sents-few (world_in (queue_of p).domains) journal.log)
+
+-- the submissions that wait are those that are not decided
+pub waiting_is : (journal : Noted) (p : Pipeline) → IsKept journal p → length p.waiting.items ≡ pending (history (known_of journal p).world journal.log)
+waiting_is journal p is =
+    let all : p.gone + length p.waiting.items ≡ length (sents (answers journal.log (queue_of p))) = length-submissions journal.log journal.marks (queue_of p) is.current in
+    let done : length p.outcomes.items ≡ length (outcomes (answers journal.log (queue_of p))) = ap length is.current.outcomes in
+    let gone = is.let_go in
+    omega (arith, all, done, gone)
 
 -- the submission of a receipt that was given is of its domain
 pub given_at : (known : HubHistory) (receipt : Receipt) → IsGiven known receipt → (s : Sent) × (slice_get (sents (history known.world known.log)) (receipt.number - 1) ≡ Some s) × (s.base.domain ≡ receipt.domain)

@@ -4,6 +4,7 @@ pub mod Compiled
 pub mod Domains
 pub mod Faults
 pub mod Following
+pub mod FromVersion
 pub mod Going
 pub mod Heard
 pub mod Held

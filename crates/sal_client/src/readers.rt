@@ -1,8 +1,8 @@
 //! The readers of the paths and the data of all domains.
-ghost use Rattle.std.specs.Prelude.{◌≡◌, ◌⊎◌, ◌+◌, ◌<◌, ◌≤◌, ◌∷◌, ◌++◌, [], false, is_some, length, IfOk, IfErr, IfSome, OnOk};
+ghost use Rattle.std.specs.Prelude.{◌≡◌, ◌⊎◌, ◌+◌, ◌<◌, ◌≤◌, ◌∷◌, ◌++◌, [], false, drop, is_some, length, IfOk, IfErr, IfSome, OnOk};
 ghost use Rattle.std.specs.List.{list_any};
 ghost use Rattle.sal_script.specs.Tables.{first_in, has_domain, has_upgrade, last_among, last_in, table_at, version_among};
-ghost use Rattle.sal_client.specs.Lists.{versions_by};
+ghost use Rattle.sal_client.specs.Lists.{begun_with, from_version, versions_by};
 ghost use Rattle.sal_client.specs.Malformed.{are_malformed, is_malformed, shared_tables, IsFirstMalformed, IsMalformedAt, IsUnreadable};
 
 use crate::reader::Reader;
@@ -209,6 +209,29 @@ fn by_last(versions: &[Reader]) -> &Reader
     &versions[versions.len() - 1]
 }
 
+// Drops the first readers.
+fn drop_first(readers: &mut Vec<Reader>, count: usize)
+    requires { count ≤ length readers.old.items }
+    ensures { readers.new.items ≡ drop count readers.old.items }
+{
+    let len = readers.len() - count;
+    readers.as_mut_slice().rotate_left(count);
+    readers.truncate(len);
+}
+
+// Drops the readers of the versions before this one; the last one stays.
+fn drop_versions(readers: &mut Vec<Reader>, version: usize)
+    requires { 0 < length readers.old.items }
+    ensures { readers.new.items ≡ from_version version readers.old.items }
+{
+    if version < readers.len() {
+        drop_first(readers, version);
+        return;
+    }
+    let last = readers.len() - 1;
+    drop_first(readers, last);
+}
+
 // The number of the device at this index.
 fn device_number(index: usize) -> u32
     requires { index < 64 }
@@ -294,6 +317,14 @@ impl Readers {
         ensures { result.now ≡ last_in self.now 0 }
     {
         by_last(&self.own)
+    }
+
+    /// Drops the readers of the controller's own domain by the versions before this one, which becomes version 0; the last one stays. It takes no
+    /// memory.
+    pub fn begin_with(&mut self, version: u32)
+        ensures { self.new ≡ begun_with version self.old }
+    {
+        drop_versions(&mut self.own, version as usize);
     }
 
     /// Whether an upgrade of the controller's own domain leads to the version.

@@ -7,3 +7,5 @@ pub mod OwnSchemas
 pub mod SoundWorlds
 pub mod Statuses
 pub mod Worlds
+pub mod Resuming
+pub mod NextVersions

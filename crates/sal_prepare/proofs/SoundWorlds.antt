@@ -1,5 +1,5 @@
 -- Trees read from an opening are closed.
-use Rattle.std.proofs.Common.{◌≡◌, ◌&&◌, ℕ, ◌+◌, ◌<◌, ◌≤◌, zero, suc, List, [], ◌∷◌, length, map, Option, None, Some, Result, Ok, Err, refl, ap, sym, ◌∙◌, subst, arith, IsTrue}
+use Rattle.std.proofs.Common.{◌≡◌, ◌&&◌, ℕ, ◌+◌, ◌<◌, ◌≤◌, zero, suc, List, [], ◌∷◌, length, map, Option, None, Some, Result, Ok, Err, refl, subst, arith, IsTrue}
 use Rattle.std.specs.Prelude.{All, slice_get, unwrap_or}
 use Rattle.std.proofs.lemmas.Bool.{and_parts}
 use Rattle.std.proofs.lemmas.Option.{none-some, same_Some}
@@ -29,8 +29,8 @@ use Rattle.sal_hub.specs.Openings.{AreClosedDevices, domain_of, fault_of, world_
 use Rattle.sal_script.specs.JsonScripts.{AreJsonDevices, IsJsonDevice}
 use Rattle.sal_script.specs.declared.script.Script.{Script}
 use Rattle.sal_script.specs.declared.script.ScriptDevice.{ScriptDevice}
-use Rattle.sal_script.specs.Tables.{first_among, later_among, versions_in}
-use Rattle.sal_client.specs.Lists.{alone, versions_by}
+use Rattle.sal_script.specs.Tables.{first_among, first_in, later_among, versions_in}
+use Rattle.sal_client.specs.Lists.{alone, begun_with, from_version, versions_by}
 use Rattle.sal_script.specs.Reading.{devices, parts}
 use Rattle.sal_script.specs.Script.{DeviceParts}
 use Rattle.sal_prepare.specs.Each.{each_from}
@@ -167,6 +167,39 @@ module _ (reads : ReadsWhole) where
       unrefused : (ds : List Domain) (o : Option OpenFault) → or_refused ds o ≡ Ok world → ds ≡ world
       unrefused ds None e = same_ok e
       unrefused ds (Some fault) e = cc
+
+-- a domain with closed trees, and then others
+pub on_sound : (tables : List (List SchemaTable)) → AreChains tables → 0 < length tables → (rules : Rules) (o : Opening) (ds : List Domain) → IsTrue (is_closed (first_in tables 0) o.config) → IsTrue (is_closed (first_in tables 0) o.oper)
+    → AreSound ds → AreSound (domain_with rules (versions_in tables 0) o ∷ ds)
+on_sound tables good inside rules o ds config oper others = by
+  where
+    first : IsSound (domain_with rules (versions_in tables 0) o)
+    first = record {
+      tables = tables_sound (versions_in tables 0) (good.each 0 inside);
+      chain = λ v. chain-at (first_in tables 0) (later_among (versions_in tables 0)) v (good.each 0 inside).chain;
+      opening = both_closed (first_in tables 0) o config oper;
+    }
+
+    by : (k : ℕ) (d : Domain) → slice_get (domain_with rules (versions_in tables 0) o ∷ ds) k ≡ Some d → IsSound d
+    by zero d at = subst IsSound (same_Some (domain_with rules (versions_in tables 0) o) d at) first
+    by (suc k) d at = others k d at
+
+-- the later versions of a domain are versions too
+chained_on : (versions : List SchemaTable) (v : ℕ) → IsChained versions → IsChained (from_version v versions)
+chained_on [] zero is = is
+chained_on [] (suc v) is = is
+chained_on (t ∷ ts) zero is = is
+chained_on (t ∷ []) (suc v) is = is
+chained_on (t ∷ next ∷ ts) (suc v) is = chained_on (next ∷ ts) v (record { some = omega (arith); tables = λ i d within. is.tables (suc i) d (omega (arith, within)); chain = is.chain.1 })
+
+-- and so are those of all domains, with the later ones of domain 0
+pub chains_on : (tables : List (List SchemaTable)) (v : ℕ) → AreChains tables → AreChains (begun_with v tables)
+chains_on [] v good = good
+chains_on (own ∷ devices) v good = record { each = each; only = good.only }
+  where
+    each : (n : ℕ) → n < length (from_version v own ∷ devices) → IsChained (versions_in (from_version v own ∷ devices) n)
+    each zero within = chained_on own v (good.each 0 (omega (arith)))
+    each (suc n) within = good.each (suc n) within
 
 -- the same for the devices of the world
 pub closed_devices : (rules : Rules) (devices : List Device) → AreSound (world_of rules devices) → AreClosedDevices devices

@@ -2,12 +2,9 @@
 use Rattle.std.proofs.Common.{◌≡◌, ℕ, ◌+◌, ◌<◌, ◌≤◌, zero, suc, List, [], ◌∷◌, length, drop, map, Option, None, Some, Result, Ok, Err, refl, ap, sym, ◌∙◌, subst, arith, inl, inr}
 use Rattle.std.proofs.lemmas.List.{drop_all}
 use Rattle.std.proofs.lemmas.Option.{none-some, same_Some}
-use Rattle.std.specs.Prelude.{IfOk, slice_get, unwrap_or}
-use Rattle.std.specs.declared.alloc.Global.{Global}
-use Rattle.std.specs.declared.sync.Arc.{Arc}
+use Rattle.std.specs.Prelude.{IfOk, slice_get}
 use Rattle.std.specs.Option.{option_map, option_or}
 use Rattle.sal_types.specs.Reading.{◌>>=◌}
-use Rattle.sal_types.specs.declared.row.Row.{Row}
 use Rattle.sal_types.specs.declared.value.Step.{Step}
 use Rattle.sal_types.specs.declared.value.Store.TheVariants.{Config, Oper}
 use Rattle.sal_rows.specs.declared.outcome.Breach.{Breach}
@@ -120,6 +117,31 @@ versions_are rules tables good xs ds room made = record {
       subst (λ (y : Domain). IsChain y.table y.upgrades) (sym is) (good.each k (omega (arith, inside, long, room))).chain;
   only = λ k d at. ap (λ (y : Domain). y.upgrades) (domain_at rules tables xs ds (suc k) d made at) ∙ good.only k;
 }
+
+-- ---- a domain before the others
+
+module _ (rules : Rules) (tables : List (List SchemaTable)) (good : AreChains tables) (o : Opening) (xs : List DeviceParts) (ds : List Domain) (all : 1 + length xs ≡ length tables) (made : each_from (opening_by rules tables) 1 xs ≡ Ok ds) where
+  there : (k : ℕ) (d : Domain) → slice_get ds k ≡ Some d → d ≡ domain_with rules (versions_in tables (suc k)) d.opening
+  there k d at =
+      let same : 1 + k ≡ suc k = omega (arith) in
+      subst (λ (m : ℕ). d ≡ domain_with rules (versions_in tables m) d.opening) same (domain_from rules tables 1 xs ds k d made at)
+
+  pub versions_on : AreVersions (domain_with rules (versions_in tables 0) o ∷ ds)
+  versions_on = record { chain = chain; only = λ k d at. ap (λ (y : Domain). y.upgrades) (there k d at) ∙ good.only k }
+    where
+      chain : (k : ℕ) (d : Domain) → slice_get (domain_with rules (versions_in tables 0) o ∷ ds) k ≡ Some d → IsChain d.table d.upgrades
+      chain zero d at = subst (λ (y : Domain). IsChain y.table y.upgrades) (same_Some (domain_with rules (versions_in tables 0) o) d at) (good.each 0 (omega (arith, all))).chain
+      chain (suc k) d at =
+          let inside : k < length ds = at_within ds k d at in
+          let long = each_long (opening_by rules tables) 1 xs ds made in
+          subst (λ (y : Domain). IsChain y.table y.upgrades) (sym (there k d at)) (good.each (suc k) (omega (arith, inside, long, all))).chain
+
+  pub tables_on : versions_of (domain_with rules (versions_in tables 0) o ∷ ds) ≡ tables
+  tables_on =
+      let some = (good.each 0 (omega (arith, all))).some in
+      ap (λ (us : List (List SchemaTable)). (first_among (versions_in tables 0) ∷ later_among (versions_in tables 0)) ∷ us) (tables_from rules tables good 1 xs ds all made)
+      ∙ ap (λ (u : List SchemaTable). u ∷ drop 1 tables) (versions_with rules (versions_in tables 0) (domain_with rules (versions_in tables 0) o) some refl)
+      ∙ sym (from_table_by tables 0 (omega (arith, all)))
 
 -- a world that is not refused is kept
 kept : (world made : List Domain) (o : Option OpenFault) → or_refused world o ≡ Ok made → world ≡ made

@@ -1,9 +1,11 @@
 pub mod Each
 pub mod Loads
+pub mod NextEpoch
 pub mod Openings
 pub mod OwnSchemas
 pub mod Parted
 pub mod Plays
+pub mod Resumed
 pub mod Scripted
 pub mod Statuses
 pub mod Texts

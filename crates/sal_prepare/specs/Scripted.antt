@@ -196,6 +196,10 @@ versions_shared schemas = versions_by (tables_in schemas.own.items) (tables_in s
 abbrev pub with_next : {A : Type 0} → List A → Result A Status → Result (List A) Status
 with_next done next = next >>= (λ x. Ok (done ++ x ∷ []))
 
+-- these, and then those that are made
+abbrev pub after_these : {A : Type 0} → List A → Result (List A) Status → Result (List A) Status
+after_these done rest = rest >>= (λ more. Ok (done ++ more))
+
 -- the status of a malformed pattern in this version of a schema, unless memory ran out
 abbrev pub IsUnformed : ℕ → ℕ → Status → Type 0
 IsUnformed n v status = IsStatusOf {A = List SchemaTable} (unformed n v) status

@@ -1,4 +1,5 @@
 //! Laws of prepared scripts.
+ghost use Rattle.sal_prepare.specs.NextEpoch.{EpochsReadOn};
 ghost use Rattle.sal_prepare.specs.Loads as loads;
 ghost use Rattle.sal_prepare.specs.Openings.{WorldsAreSound};
 
@@ -20,3 +21,8 @@ pub fn openings_are_closed()
 {
     sal_data::laws::rows_that_were_read_are_whole();
 }
+
+/// The versions of the next epoch's world are those from the present one on, and the last ones stay.
+pub fn epochs_read_on()
+    ensures { EpochsReadOn }
+{}

@@ -19,5 +19,6 @@ mod openings;
 pub mod own_schema;
 pub mod parted;
 pub mod plays;
+pub mod resumed;
 pub mod scripted;
 pub mod status;

@@ -57,8 +57,8 @@ pub(crate) fn hub_over(
     hub_of(alloc, readers, devices, script.rules)
 }
 
-// Does nothing; its contract is that the domains of the script are sound over these versions, if their data are read.
-fn are_sound(script: &Script, schemas: &Schemas)
+/// Does nothing; its contract is that the domains of the script are sound over these versions, if their data are read.
+pub(crate) fn are_sound(script: &Script, schemas: &Schemas)
     requires made { spec.all_versions (parts script.now) ≡ Ok (spec.versions_shared schemas.now) }
     requires own { 1 ≤ length schemas.now.own.items }
     requires all { length schemas.now.devices.items + 1 ≡ length (spec.domains_of (parts script.now)) }
@@ -93,8 +93,8 @@ fn devices_of(
     Ok(devices)
 }
 
-// The versions of the domain of this number.
-fn versions_at(schemas: &Schemas, number: u32) -> &[Arc<Schema>]
+/// The versions of the domain of this number.
+pub(crate) fn versions_at(schemas: &Schemas, number: u32) -> &[Arc<Schema>]
     requires own { 1 ≤ length schemas.now.own.items }
     requires within { number < length (spec.versions_shared schemas.now) }
     ensures tables { spec.tables_in result.now ≡ versions_in (spec.versions_shared schemas.now) number }
@@ -106,8 +106,8 @@ fn versions_at(schemas: &Schemas, number: u32) -> &[Arc<Schema>]
     slice::from_ref(&schemas.devices[number as usize - 1])
 }
 
-// One more device, of these versions, for any version rules.
-fn add_device(
+/// One more device, of these versions, for any version rules.
+pub(crate) fn add_device(
     alloc: Global,
     devices: &mut Vec<Device>,
     versions: &[Arc<Schema>],
@@ -142,8 +142,8 @@ fn later(versions: &[Arc<Schema>]) -> &[Arc<Schema>]
     &versions[1..]
 }
 
-// The opening trees of the domain of this number.
-fn opening_at(
+/// The opening trees of the domain of this number.
+pub(crate) fn opening_at(
     alloc: Global,
     readers: &Readers,
     number: u32,
@@ -217,8 +217,8 @@ fn opening_text(
     Ok(Str::from_string(text))
 }
 
-// The hub over the devices under the version rules, unless one of their opening trees is refused.
-fn hub_of(
+/// The hub over the devices under the version rules, unless one of their opening trees is refused.
+pub(crate) fn hub_of(
     alloc: Global,
     readers: &Readers,
     devices: Vec<Device>,

@@ -9,6 +9,7 @@ use crate::caller::Caller;
 use crate::clients::Clients;
 use crate::fault::StepFault;
 use sal_client::Readers;
+use sal_hub::Hub;
 use sal_prepare::scripted::{Prepared, ReadScript, prepare};
 use sal_prepare::status::Status;
 use sal_schema::Schema;
@@ -28,6 +29,15 @@ pub struct Embedded {
     clients: Clients,
     schemas: Vec<Arc<Schema>>,
     readers: Readers,
+}
+
+/// The hub of a broker, with the schemas and the readers of its world, and whether reads are checked.
+#[derive(Drop)]
+pub struct OpenHub {
+    pub hub: Hub,
+    pub schemas: Vec<Arc<Schema>>,
+    pub readers: Readers,
+    pub checked_reads: bool,
 }
 
 impl Model for Embedded {
@@ -61,6 +71,82 @@ impl Embedded {
         let prepared = prepare(alloc, script)?;
         bare(alloc, &prepared)?;
         Ok(over(alloc, prepared))
+    }
+
+    /// A broker over this hub without calls, with the schemas and the readers of its world. No step was made.
+    pub fn over(
+        alloc: Global,
+        hub: Hub,
+        schemas: Vec<Arc<Schema>>,
+        readers: Readers,
+        checked_reads: bool,
+    ) -> Embedded
+        requires schemas { tables_in schemas.items ≡ tables_of hub.world }
+        requires few { length schemas.items ≤ 64 }
+        requires readers { readers ≡ versions_of hub.world }
+        requires fresh { hub.log ≡ [] }
+        ensures hub { result.hub ≡ hub }
+        ensures reads { result.checked_reads ≡ checked_reads }
+        ensures begun { IsBegun result }
+    {
+        let callers: Vec<Caller> = Vec::new(alloc);
+        Embedded {
+            clients: Clients {
+                hub,
+                callers,
+                checked_reads,
+            },
+            schemas,
+            readers,
+        }
+    }
+
+    /// The hub. It takes no memory.
+    pub fn hub(&self) -> &Hub
+        ensures { result.now ≡ self.now.hub }
+    {
+        &self.clients.hub
+    }
+
+    /// The schemas of the domains, each of its last version. It takes no memory.
+    pub fn schemas(&self) -> &[Arc<Schema>]
+        ensures tables { tables_in result.now ≡ tables_of self.now.hub.world }
+        ensures few { length result.now ≤ 64 }
+    {
+        &self.schemas
+    }
+
+    /// The readers of the domains. It takes no memory.
+    pub fn readers(&self) -> &Readers
+        ensures { result.now ≡ versions_of self.now.hub.world }
+    {
+        &self.readers
+    }
+
+    /// The hub, with the schemas and readers of its world. The clients are dropped, with the lines of their steps. It takes no memory.
+    pub fn into_hub(self) -> OpenHub
+        ensures hub { result.hub ≡ self.hub }
+        ensures schemas { tables_in result.schemas.items ≡ tables_of self.hub.world }
+        ensures few { length result.schemas.items ≤ 64 }
+        ensures readers { result.readers ≡ versions_of self.hub.world }
+        ensures reads { result.checked_reads ≡ self.checked_reads }
+    {
+        let Embedded {
+            clients,
+            schemas,
+            readers,
+        } = self;
+        let Clients {
+            hub,
+            checked_reads,
+            ..
+        } = clients;
+        OpenHub {
+            hub,
+            schemas,
+            readers,
+            checked_reads,
+        }
     }
 
     /// Makes the client's next step, and returns the text of its reply.

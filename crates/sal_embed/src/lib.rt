@@ -3,6 +3,7 @@
 //! | item | what it is |
 //! |---|---|
 //! | `Embedded` | the broker: `open`, `step`, `report`; it is closed by dropping it |
+//! | `Embedded::over`, `into_hub`, `OpenHub` | a broker over another hub, and the hub of a broker |
 //! | `StepFault` | why a step has no reply |
 //! | `CLIENTS` | client numbers are below this |
 //! | `laws` | the steps so far are a script, played in the order of the log |
@@ -28,5 +29,5 @@ mod fault;
 pub mod laws;
 mod stepping;
 
-pub use embedded::{CLIENTS, Embedded};
+pub use embedded::{CLIENTS, Embedded, OpenHub};
 pub use fault::StepFault;

@@ -23,7 +23,7 @@ use Rattle.sal_module_table.specs.Build.{build, table_of}
 use Rattle.sal_module_table.specs.Lists as lists
 use Rattle.sal_module_table.specs.OldBases as old_bases
 use Rattle.sal_module_table.specs.Types as types
-pub use Rattle.sal_types.proofs.Shared.{bind_ok}
+pub use Rattle.sal_types.proofs.Handy.{bind_ok}
 
 -- ---- steps
 

@@ -5,7 +5,7 @@ use Rattle.std.specs.List.{list_all, list_any, flat_map, enumerate_from, slice_g
 use Rattle.std.proofs.lemmas.Bool.{cases_Bool}
 use Rattle.sal_schema.proofs.Conjuncts.{and_first, and_second}
 use Rattle.sal_build.proofs.Quiet.{front-nil}
-pub use Rattle.sal_types.proofs.Shared.{In, In-back, In-flat}
+pub use Rattle.sal_types.proofs.Handy.{In, In-back, In-flat}
 
 -- ---- its number
 

@@ -2,7 +2,7 @@
 use Rattle.std.proofs.Common.{◌≡◌, Bool, true, false, cond, List, [], ◌∷◌, ◌++◌, inl, inr, refl, sym, map, ◌∙◌}
 use Rattle.std.specs.Prelude.{◌⊎◌}
 use Rattle.std.specs.List.{filter, flat_map}
-pub use Rattle.sal_types.proofs.Shared.{In, In-front, In-back, In-flat}
+pub use Rattle.sal_types.proofs.Handy.{In, In-front, In-back, In-flat}
 
 pub In-either : {X : Type 0} (x : X) (xs ys : List X) → In x (xs ++ ys) → In x xs ⊎ In x ys
 In-either x [] ys i = inr i

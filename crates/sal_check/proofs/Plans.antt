@@ -5,7 +5,7 @@ use Rattle.std.specs.List.{filter, list_any, All}
 use Rattle.std.proofs.lemmas.Bool.Decides.{nat_tests}
 use Rattle.std.proofs.lemmas.List.Elements.{filter-append, All-append}
 use Rattle.std.proofs.lemmas.List.Folds.{list_any-append}
-use Rattle.sal_types.proofs.Shared.{or-false}
+use Rattle.sal_types.proofs.Handy.{or-false}
 use Rattle.sal_schema.specs.declared.table.SchemaTable.{SchemaTable}
 use Rattle.sal_schema.specs.Kinds.{is_choice_or_case}
 use Rattle.sal_schema.specs.Table.{data_parent, parent_of}

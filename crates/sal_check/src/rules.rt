@@ -170,7 +170,13 @@ pub(crate) fn has_too_many(walk: &Walk, place: &Place, number: u32) -> Result<bo
     let Some(most) = schema.max_elements(number) else {
         return Ok(false);
     };
-    let entries = count(walk.alloc, child_of(Some(place.node), &Step::Node(number)))?;
+    let list = child_of(Some(place.node), &Step::Node(number));
+    if let Some(node) = list {
+        if node.count() <= most as usize {
+            return Ok(false);
+        }
+    }
+    let entries = count(walk.alloc, list)?;
     Ok(entries > most as usize)
 }
 

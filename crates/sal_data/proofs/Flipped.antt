@@ -9,7 +9,7 @@ use Rattle.std.specs.declared.cmp.Ordering.{Ordering}
 use Rattle.std.specs.declared.cmp.Ordering.TheVariants.{Less, Equal, Greater}
 use Rattle.sal_types.specs.declared.row.Row.{Row}
 use Rattle.sal_types.specs.Order.{path_cmp, path_cmp-IsTotalOrder}
-use Rattle.sal_types.proofs.Shared.{same_path}
+use Rattle.sal_types.proofs.Handy.{same_path}
 use Rattle.sal_data.specs.Read.{in_order}
 use Rattle.sal_data.proofs.SortedRows.{in_order-stable}
 

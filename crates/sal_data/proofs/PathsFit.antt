@@ -12,7 +12,7 @@ use Rattle.sal_schema.specs.Paths.{may_follow, are_of_nodes, may_pick, step_fits
 use Rattle.sal_schema.specs.Values.{is_of_node}
 use Rattle.sal_data.proofs.Fronts.{length-more}
 use Rattle.sal_data.proofs.KindFacts.{leaf_list-entries, leaf_list-list, list-entries, list-leaf_list}
-use Rattle.sal_types.proofs.Shared.{slice_get-end}
+use Rattle.sal_types.proofs.Handy.{slice_get-end}
 
 -- ---- the end of a path
 

@@ -11,7 +11,7 @@ use crate::members::member_for;
 use crate::reader::Reader;
 use crate::seen::Seen;
 use sal_schema::lookups::keys_at;
-use sal_types::{Cell, Duplicate, NoMemory, Path, PathFault, Row, Seq, Step, Value};
+use sal_types::{Cell, Duplicate, NoMemory, Path, PathFault, Row, Seq, Shared, Step, Value};
 use serde_json::{Map, Value as Json};
 use std::alloc::Global;
 
@@ -128,7 +128,7 @@ impl<'a> Reader<'a> {
             return Err(DataFault::WrongShape { path: path.copy()? });
         };
         let values = self.key_values(node, path, members, keys_at(self.schema, node))?;
-        Ok(Step::Key(Seq::from_items(values)))
+        Ok(Step::Key(Shared::new(self.alloc, Seq::from_items(values))?))
     }
 
     /// The step to an entry of the leaf-list at the path.
@@ -136,7 +136,7 @@ impl<'a> Reader<'a> {
         ensures { GivesUnless DataFault.NoMemory (λ step. step) result (spec.item_step self.now.schema.now node path.now (view json.now)) }
     {
         let value = self.value_at(path, node, json)?;
-        Ok(Step::Item(value))
+        Ok(Step::Item(Shared::new(self.alloc, value)?))
     }
 
     /// Appends the entries of the leaf-list at the path; `seen` has the entries before these.

@@ -63,7 +63,7 @@ fn has_keys(schema: &Schema, rows: &[Row], steps: &[Step], step: &Step) -> bool
 {
     match (step, node_at_end(steps)) {
         (Step::Key(values), Some(node)) => {
-            has_key_leafs(rows, steps, keys_at(schema, node), values.items())
+            has_key_leafs(rows, steps, keys_at(schema, node), values.value().items())
         }
         _ => true,
     }

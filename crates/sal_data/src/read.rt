@@ -45,6 +45,9 @@ impl<'a> Reader<'a> {
     fn entry_step(&self, node: u32, path: &Path, json: &Json) -> Result<Step, DataFault>
         ensures { GivesUnless DataFault.NoMemory (λ step. step) result (spec.key_step self.now.schema.now node (spec.before_last path.now) (view json.now)) }
     {
+        if let Ok(step) = self.key_step(node, path, json) {
+            return Ok(step);
+        }
         let list = before_last(self.alloc, path)?;
         self.key_step(node, &list, json)
     }
@@ -53,6 +56,9 @@ impl<'a> Reader<'a> {
     fn value_step(&self, node: u32, path: &Path, json: &Json) -> Result<Step, DataFault>
         ensures { GivesUnless DataFault.NoMemory (λ step. step) result (spec.item_step self.now.schema.now node (spec.before_last path.now) (view json.now)) }
     {
+        if let Ok(step) = self.item_step(node, path, json) {
+            return Ok(step);
+        }
         let list = before_last(self.alloc, path)?;
         self.item_step(node, &list, json)
     }

@@ -72,7 +72,7 @@ impl<'a> Writer<'a> {
     {
         match step {
             Some(Step::Item(value)) => {
-                let json = write_leaf(self.alloc, self.schema, node, value)?;
+                let json = write_leaf(self.alloc, self.schema, node, value.value())?;
                 items.push(json)?;
                 Ok(())
             }
@@ -216,7 +216,7 @@ impl<'a> Writer<'a> {
             None => self.members_json(MAX_LEVELS, None, 0, rows),
             Some(Step::Node(node)) => self.node_json(MAX_LEVELS, *node, k, rows),
             Some(Step::Key(_)) => self.members_json(MAX_LEVELS, node_at_end(path.steps()), k, rows),
-            Some(Step::Item(value)) => self.item_at(path, value),
+            Some(Step::Item(value)) => self.item_at(path, value.value()),
         }
     }
 }

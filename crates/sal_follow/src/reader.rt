@@ -13,7 +13,7 @@ use sal_json::{Patterns, ScalarFault, read_scalar};
 use sal_rows::Patch;
 use sal_schema::Schema;
 use sal_schema::lookups::{is_leaf, keys_at, module_at, type_at};
-use sal_types::{Cell, NoMemory, Path, PathFault, Seq, Step, Value, append};
+use sal_types::{Cell, NoMemory, Path, PathFault, Seq, Shared, Step, Value, append};
 use serde_json::{Map, Number, Value as Json};
 use std::alloc::Global;
 
@@ -130,7 +130,7 @@ impl<'a> Reader<'a> {
             return Ok(None);
         }
         match self.values_in(leafs, items)? {
-            Some(values) => Ok(Some(Step::Key(Seq::from_items(values)))),
+            Some(values) => Ok(Some(Step::Key(Shared::new(self.alloc, Seq::from_items(values))?))),
             None => Ok(None),
         }
     }
@@ -143,7 +143,7 @@ impl<'a> Reader<'a> {
             return Ok(None);
         };
         match self.value_at(node, json)? {
-            Some(value) => Ok(Some(Step::Item(value))),
+            Some(value) => Ok(Some(Step::Item(Shared::new(self.alloc, value)?))),
             None => Ok(None),
         }
     }

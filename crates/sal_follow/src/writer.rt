@@ -77,11 +77,11 @@ impl<'a> Writer<'a> {
         match (step, here) {
             (Step::Node(node), _) => Ok(Json::from(u64::from(*node))),
             (Step::Key(values), Some(node)) => {
-                self.keys_json(keys_at(self.schema, node), values.items())
+                self.keys_json(keys_at(self.schema, node), values.value().items())
             }
             (Step::Key(_), None) => Ok(Json::Array(Vec::new(self.alloc))),
             (Step::Item(value), _) => {
-                let json = self.entry_json(here, value)?;
+                let json = self.entry_json(here, value.value())?;
                 self.item_json(json)
             }
         }

@@ -15,7 +15,7 @@ use Rattle.sal_grouping.specs.Indexes.{with_first}
 use Rattle.sal_grouping.specs.Children.{is_choice, key_of, key_cmp, same_key, has_key, first_with, is_first}
 use Rattle.sal_grouping.proofs.IndexLists.{with_first-miss}
 use Rattle.sal_grouping.proofs.Places.{position_from-take}
-use Rattle.sal_types.proofs.Shared.{got-at}
+use Rattle.sal_types.proofs.Handy.{got-at}
 
 same_key-IsEquivalence : IsEquivalence same_key
 same_key-IsEquivalence = eq_by_cmp_equiv key_ord_laws.total-law

@@ -25,7 +25,7 @@ use Rattle.sal_history.specs.declared.reply.Reply.TheVariants.{Accepted}
 use Rattle.sal_history.specs.History.{fault_if, refused_or, reply_to, trees_of, upgrade_refusal}
 use Rattle.sal_history.specs.Versions.{breach_in, broken_by, is_upgrade, schema_version, tables_now, upgraded, version_at}
 use Rattle.sal_history.specs.World.{Domain, IsChain, last_of, table_of, version_from, version_in}
-use Rattle.sal_types.proofs.Shared.{not_false}
+use Rattle.sal_types.proofs.Handy.{not_false}
 
 -- ---- the tables of a chain of versions
 

@@ -15,7 +15,7 @@ use Rattle.sal_rows.specs.Commits.{numbers_after}
 use Rattle.sal_schema.specs.Fitting.{is_root, prefixes}
 use Rattle.sal_schema.specs.Paths.{last_step}
 use Rattle.sal_rules.specs.Refusals.{above}
-use Rattle.sal_types.proofs.Shared.{slice_get-end}
+use Rattle.sal_types.proofs.Handy.{slice_get-end}
 
 pub same_step : (s t : Step) → eq_by_cmp step_cmp s t ≡ true → s ≡ t
 same_step s t e = step_cmp-IsAntisymmetric s t ((Equal-is _).0 e)

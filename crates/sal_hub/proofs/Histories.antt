@@ -17,7 +17,7 @@ use Rattle.sal_history.specs.Services.{mount_call, mounting, note_asked, note_ca
 use Rattle.sal_history.specs.Submissions.{Sent}
 use Rattle.sal_hub.proofs.Listed.{found_more, slice_get_left, slice_get_seam}
 use Rattle.sal_history.proofs.Logs.{last_from-push}
-pub use Rattle.sal_types.proofs.Shared.{listed}
+pub use Rattle.sal_types.proofs.Handy.{listed}
 
 module _ (world : List Domain) where
   abbrev pub now_of : List Answered → Entry → Answered

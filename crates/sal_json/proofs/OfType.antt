@@ -26,7 +26,7 @@ use Rattle.sal_json.specs.Read.{text_atom, json_atom, bytes_of, bytes_atom, whol
 use Rattle.sal_json.specs.Laws.{IsOfItsType, IsOfItsTypeAsKey}
 use Rattle.sal_json.proofs.Chosen.{same_ok, chosen, otherwise, from_some}
 use Rattle.sal_json.proofs.BitSets.{among_called, bits_of-bits}
-use Rattle.sal_types.proofs.Shared.{not_false}
+use Rattle.sal_types.proofs.Handy.{not_false}
 
 same_number : (n : ℕ) → (n == n) ≡ true
 same_number n = grind (arith, nat_tests)

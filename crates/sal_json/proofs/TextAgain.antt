@@ -32,7 +32,7 @@ use Rattle.sal_json.specs.Written.{atom_text}
 use Rattle.sal_json.proofs.Chosen.{same_ok, chosen, otherwise, from_some}
 use Rattle.sal_json.proofs.Readable.{text_eq-same}
 use Rattle.sal_json.proofs.WholeTexts.{whole-IsSmall, int_readable}
-pub use Rattle.sal_types.proofs.Shared.{not_true}
+pub use Rattle.sal_types.proofs.Handy.{not_true}
 
 -- ---- names with distinct numbers
 

@@ -22,7 +22,7 @@ use Rattle.sal_mod.specs.Covers.{stands_over, stands_at, first_at}
 use Rattle.sal_mod.specs.Firsts.{AreFirstBy, places_in}
 use Rattle.sal_mod.proofs.Noted.{and_false}
 use Rattle.sal_mod.specs.Early.{any_prefix, is_early}
-use Rattle.sal_types.proofs.Shared.{then_eq}
+use Rattle.sal_types.proofs.Handy.{then_eq}
 
 pub any_prefix-alike : (f g : List Step → Bool) (p : List Step) → ((q : List Step) → f q ≡ g q) → any_prefix f p ≡ any_prefix g p
 any_prefix-alike f g [] h = h []

@@ -62,8 +62,39 @@ fn joined(alloc: Global, all: &[Vec<u32>], bases: &[usize]) -> Result<Vec<u32>, 
 }
 
 /// Computes the list of this number from those before it.
+// Adds the number, unless it is marked by this turn.
+fn add_marked(out: &mut Vec<u32>, marks: &mut Vec<u32>, turn: u32, k: u32) -> Result<(), NoMemory> {
+    let at = k as usize;
+    if at >= marks.len() {
+        return add(out, k);
+    }
+    if marks[at] != turn {
+        marks[at] = turn;
+        append(out, k)?;
+    }
+    Ok(())
+}
+
+fn joined_by(
+    alloc: Global,
+    all: &[Vec<u32>],
+    bases: &[usize],
+    marks: &mut Vec<u32>,
+    turn: u32,
+) -> Result<Vec<u32>, NoMemory> {
+    let mut out = Vec::new(alloc);
+    for base in bases {
+        add_marked(&mut out, marks, turn, *base as u32)?;
+        for k in row_at(all, *base) {
+            add_marked(&mut out, marks, turn, *k)?;
+        }
+    }
+    Ok(out)
+}
+
 fn place_row(
     all: &mut Vec<Vec<u32>>,
+    marks: &mut Vec<u32>,
     alloc: Global,
     edges: &[Vec<usize>],
     i: usize,
@@ -75,7 +106,7 @@ fn place_row(
         (if i == k then spec.joined (λ b. slice_index_or (rows all.old.items) b []) (slice_index_or (lists edges.now) k []) else slice_index_or (rows all.old.items) k [])) }
 {
     if i < edges.len() {
-        let row = joined(alloc, all, out_of(edges, i))?;
+        let row = joined_by(alloc, all, out_of(edges, i), marks, i as u32 + 1)?;
         all[i] = row;
     }
     Ok(())
@@ -99,9 +130,13 @@ fn derived_by(alloc: Global, edges: &[Vec<usize>], order: &Order) -> Result<Vec<
     ensures each { IfOk result (λ all. (k : ℕ) → k < length (lists edges.now) → slice_index_or (rows all.items) k [] ≡ spec.derived_from (lists edges.now) k) }
 {
     let mut all = empty_rows(alloc, edges.len())?;
+    let mut marks = Vec::with_capacity(alloc, edges.len())?;
+    for _ in 0..edges.len() {
+        append(&mut marks, 0)?;
+    }
     for r in 0..order.order.len() {
         let i = stands_at(&order.order, r, edges.len());
-        place_row(&mut all, alloc, edges, i)?;
+        place_row(&mut all, &mut marks, alloc, edges, i)?;
     }
     Ok(all)
 }

@@ -18,7 +18,7 @@ use Rattle.sal_mount.specs.Answers.{Fails, Makes}
 use Rattle.sal_mount.specs.Mounts.{Made, Mounted, fault_if, is_device, is_live, is_unmounted, made_of, make, mount_at, mount_refusal, mounted, mounts, refused_or, reply_to, standing, stands_at, unmounts, was_mounted}
 use Rattle.sal_mount.specs.Register.{IsKept, Register, is_up, last_at, listed, live_at, live_of, refusal_by, state_at, state_of}
 use Rattle.sal_mount.proofs.Made.{gone-one, gone-same, mounted-one, mounted-same, standing-without, was-one}
-use Rattle.sal_types.proofs.Shared.{and-true, same_path}
+use Rattle.sal_types.proofs.Handy.{and-true, same_path}
 
 -- ---- what a register shows of the calls
 

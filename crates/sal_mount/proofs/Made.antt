@@ -6,7 +6,7 @@ use Rattle.std.proofs.lemmas.List.Folds.{list_any-append}
 use Rattle.sal_types.specs.declared.value.Step.{Step}
 use Rattle.sal_types.specs.Order.{path_eq}
 use Rattle.sal_mount.specs.Mounts.{Made, Mounted, is_unmounted, mounted, mounts, stands_at, unmounts}
-use Rattle.sal_types.proofs.Shared.{or-false}
+use Rattle.sal_types.proofs.Handy.{or-false}
 
 module _ (made : List Made) (m : Made) where
   mounted-more : mounted (made ++ m ∷ []) ≡ mounted made ++ cons_option (mounts m.call m.reply) []

@@ -10,7 +10,7 @@ use Rattle.sal_types.specs.declared.value.Step.{Step}
 use Rattle.sal_types.specs.Order.{step_cmp, step_cmp-IsTotalOrder, step_cmp-IsAntisymmetric}
 pub use Rattle.sal_types.proofs.TrueParts.{first, second, both}
 use Rattle.sal_node.specs.Tree.{Tree, Forest, bare, grown, pairs, grove, cut, change, place, after, one_of}
-pub use Rattle.sal_types.proofs.Shared.{less}
+pub use Rattle.sal_types.proofs.Handy.{less}
 
 abbrev pub Entries : Type 0
 Entries = List (Step × Tree)

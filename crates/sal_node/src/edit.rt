@@ -9,6 +9,7 @@ ghost use Rattle.sal_node.specs.Shape.{tree_in, tree_at, seen};
 
 use crate::node::{Child, Node, Paging};
 use crate::paging::{
+    count_children,
     all_children, changed_paging, child_of, has_children, made_children, shared_paging,
 };
 use sal_types::{Cell, Duplicate, NoMemory, Step};
@@ -57,6 +58,11 @@ impl Node {
             paging,
         };
         Ok(with_cell)
+    }
+
+    /// How many children it has. It takes no memory.
+    pub fn count(&self) -> usize {
+        count_children(&self.paging)
     }
 
     /// Its children, in order.

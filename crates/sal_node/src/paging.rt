@@ -143,6 +143,29 @@ pub(crate) fn child_of<'a>(paging: &'a Paging, step: &Step) -> Option<&'a Arc<No
     }
 }
 
+/// How many children there are: by the lengths of their pages.
+pub(crate) fn count_children(paging: &Paging) -> usize {
+    match paging {
+        Paging::Few(children) => children.len(),
+        Paging::Pages(pages) => count_in(pages),
+        Paging::Sheets(sheets) => {
+            let mut count = 0;
+            for sheet in sheets {
+                count = count + count_in(&sheet.pages);
+            }
+            count
+        }
+    }
+}
+
+fn count_in(pages: &[Arc<Page>]) -> usize {
+    let mut count = 0;
+    for page in pages {
+        count = count + page.children.len();
+    }
+    count
+}
+
 /// Whether there are children.
 pub(crate) fn has_children(paging: &Paging) -> bool
     requires { ArePaged paging.now }

@@ -14,7 +14,7 @@ use Rattle.std.proofs.lemmas.Map.Steps.{set_value_same}
 use Rattle.sal_note.specs.declared.call.Note.{Note}
 use Rattle.sal_note.specs.Boxes.{AreAbove, Ascend, box_in, give_one, given, put_back, queue_in, take_one, taken_back}
 use Rattle.sal_note.proofs.Ascending.{absent}
-pub use Rattle.sal_types.proofs.Shared.{none-of, on_err, remove-insert}
+pub use Rattle.sal_types.proofs.Handy.{none-of, on_err, remove-insert}
 
 -- ---- the first that passes a test
 

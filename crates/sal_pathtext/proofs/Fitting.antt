@@ -29,7 +29,7 @@ use Rattle.sal_pathtext.specs.declared.here.Here.{Here}
 use Rattle.sal_pathtext.specs.Words.{Text, first, place, after_blanks, said, closed}
 use Rattle.sal_pathtext.specs.Nodes.{is_for, value_given, with_value, values_given, not_given, entry_given, value_of}
 use Rattle.sal_pathtext.specs.Read.{taken, found, subject, predicate, predicates}
-pub use Rattle.sal_types.proofs.Shared.{bind_ok}
+pub use Rattle.sal_types.proofs.Handy.{bind_ok}
 
 -- ---- readers
 

@@ -8,7 +8,7 @@ use Rattle.std.specs.List.{list_any, prefix_len}
 use Rattle.sal_types.specs.Reading.{with_front}
 use Rattle.sal_pathtext.specs.Written.{doubled}
 use Rattle.sal_pathtext.specs.Words.{Text, first, is_double_quote, bad_text, single}
-pub use Rattle.sal_types.proofs.Shared.{with_front-with_front, with_front-nil}
+pub use Rattle.sal_types.proofs.Handy.{with_front-with_front, with_front-nil}
 
 abbrev pub is_other : ℕ → ℕ → Bool
 is_other q c = not (c == q)

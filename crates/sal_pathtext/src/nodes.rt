@@ -10,7 +10,7 @@ use crate::given::Given;
 use sal_json::{Patterns, ScalarFault, read_text, write_text};
 use sal_schema::Schema;
 use sal_schema::lookups::{is_leaf_list, keys_at, module_at, own_module, type_at};
-use sal_types::{Duplicate, Keys, NoMemory, Seq, Step, Str, Value};
+use sal_types::{Duplicate, Keys, NoMemory, Seq, Shared, Step, Str, Value};
 use std::alloc::Global;
 
 /// The data node of a name, below a node or at the top.
@@ -105,7 +105,7 @@ fn values_given(alloc: Global, given: &[Given], keys: &[u32]) -> Result<Option<K
             None => return Ok(None),
         }
     }
-    Ok(Some(Seq::from_items(values)))
+    Ok(Some(Shared::new(alloc, Seq::from_items(values))?))
 }
 
 /// The step to the entry with these values, unless one is missing.
@@ -119,7 +119,7 @@ pub(crate) fn entry_given(
 {
     if is_leaf_list(schema, node) {
         return match value_given(given, node) {
-            Some(value) => Ok(Some(Step::Item(value.copy()?))),
+            Some(value) => Ok(Some(Step::Item(Shared::new(alloc, value.copy()?)?))),
             None => Ok(None),
         };
     }

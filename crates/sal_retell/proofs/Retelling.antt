@@ -28,7 +28,7 @@ use Rattle.sal_history.specs.Versions.{tables_now}
 use Rattle.sal_history.specs.World.{Domain}
 use Rattle.sal_history.proofs.Numbered.{numbered-map}
 use Rattle.sal_schema.specs.declared.table.SchemaTable.{SchemaTable}
-use Rattle.sal_types.proofs.Shared.{listed}
+use Rattle.sal_types.proofs.Handy.{listed}
 use Rattle.sal_retell.specs.declared.front.Footing.{Footing}
 use Rattle.sal_retell.specs.Told.{told, told_in}
 use Rattle.sal_retell.specs.Light as light_of

@@ -30,7 +30,7 @@ use Rattle.sal_rows.specs.Clash.{at_row, checks_leafs, clash, clash_from, is_lea
 use Rattle.sal_rows.specs.Quiet.{AreSpans, with_own}
 use Rattle.sal_rows.specs.Named.{place_of, IsPlaced, NamesALaterCommit}
 use Rattle.sal_rows.proofs.Quiet.{over_untouched}
-pub use Rattle.sal_types.proofs.Shared.{not_true}
+pub use Rattle.sal_types.proofs.Handy.{not_true}
 
 any_here : {X : Type 0} (P : X → Type 0) (x : X) (xs : List X) → P x → Any P (x ∷ xs)
 any_here P x xs p = (0, x, omega arith, refl, p)

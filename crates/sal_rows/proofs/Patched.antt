@@ -22,7 +22,7 @@ use Rattle.sal_rows.specs.Batches.{part_with, part, parts_after, lists_of, HasCh
 use Rattle.sal_rows.specs.Patch.{with_cell, with_changes, with_parts}
 use Rattle.sal_rows.proofs.Cells.{same_path, path_eq-itself, cell-set_row, IsAscending-set_row, cell-filter, IsAscending-filter}
 use Rattle.sal_rows.proofs.Differing.{first, second, marks, Rises, at-changes, rises-changes}
-pub use Rattle.sal_types.proofs.Shared.{less}
+pub use Rattle.sal_types.proofs.Handy.{less}
 
 pub ascending-with_cell : (rows : List Row) (p : List Step) (o : Option Cell) → IsAscending rows → IsAscending (with_cell rows p o)
 ascending-with_cell rows p None h = IsAscending-filter (λ q. not (path_eq p q)) rows h

@@ -11,7 +11,7 @@ use Rattle.std.specs.FinMap.{find, put, is_sorted}
 use Rattle.std.specs.FinMap.Entries.{is_sorted-put, find-put, same_entries}
 use Rattle.sal_types.specs.declared.value.Step.{Step}
 use Rattle.sal_types.specs.Order.{path_cmp, path_eq, path_cmp-IsTotalOrder, path_cmp-IsAntisymmetric}
-use Rattle.sal_types.proofs.Shared.{same_path}
+use Rattle.sal_types.proofs.Handy.{same_path}
 
 -- the first of the elements that pass a test passes it
 first_kept : {X : Type 0} (t : X → Bool) (xs : List X) (x : X) (l : List X) → filter t xs ≡ x ∷ l → t x ≡ true

@@ -24,7 +24,7 @@ use Rattle.sal_rpc.proofs.Requested.{answer-more, handed-more, live-more, reques
 use Rattle.sal_rpc.proofs.Sending.{as-many, get-map, get-more, get-within, sent-ends, sent-get, sent-length, written-from}
 use Rattle.sal_rpc.proofs.Services.{picked, picked-more, picked-without}
 use Rattle.sal_rpc.proofs.Waiting.{but, but-first, but-other, first-high, first-low, waiting-but, waiting-more}
-use Rattle.sal_types.proofs.Shared.{and-true}
+use Rattle.sal_types.proofs.Handy.{and-true}
 
 or-none : {X : Type 0} (o : Option X) → option_or o None ≡ o
 or-none None = refl

@@ -8,7 +8,7 @@ use Rattle.std.proofs.lemmas.List.Folds.{list_any-append}
 use Rattle.std.proofs.lemmas.List.Sums.{fold-append}
 use Rattle.sal_types.specs.declared.row.Row.{Row}
 use Rattle.sal_rpc.specs.Routing.{Made, Registration, answer_to, answers, hands, is_handed, live, live_after, requested, requests}
-pub use Rattle.sal_types.proofs.Shared.{on_err, or-false}
+pub use Rattle.sal_types.proofs.Handy.{on_err, or-false}
 
 first-rows : (xs : List (List Row)) (o : Option (List Row)) → slice_get (xs ++ cons_option o []) 0 ≡ option_or (slice_get xs 0) o
 first-rows [] None = refl

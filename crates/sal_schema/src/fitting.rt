@@ -119,9 +119,9 @@ impl Schema {
     {
         match (self.kind_at(node), step) {
             (Some(Kind::List), Step::Key(keys)) => {
-                self.are_of_nodes(self.keys(node), keys.items())
+                self.are_of_nodes(self.keys(node), keys.value().items())
             }
-            (Some(Kind::LeafList), Step::Item(value)) => self.is_of_node(node, value),
+            (Some(Kind::LeafList), Step::Item(value)) => self.is_of_node(node, value.value()),
             _ => false,
         }
     }

@@ -10,7 +10,7 @@ use Rattle.sal_rows.specs.declared.outcome.Outcome.{Outcome}
 use Rattle.sal_history.specs.declared.call.Entry.{Entry}
 use Rattle.sal_history.specs.History.{Answered, answer, answered_as, decided_by, history, is_spent, outcomes, reply_to, sent_by, sents, spends}
 use Rattle.sal_script_laws.specs.Rounds.{load_world}
-use Rattle.sal_types.proofs.Shared.{listed}
+use Rattle.sal_types.proofs.Handy.{listed}
 pub use Rattle.sal_script.proofs.Followed.{get_last}
 
 -- an entry with its answer

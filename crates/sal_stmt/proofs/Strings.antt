@@ -8,7 +8,7 @@ use Rattle.sal_stmt.specs.Words.{Text, first, is_control}
 use Rattle.sal_stmt.specs.Quoted.{is_escape}
 use Rattle.sal_types.specs.Reading.{◌>>=◌, with_front}
 use Rattle.sal_stmt.specs.Text.{place, is_quote, within, single, double, quoted, joined}
-pub use Rattle.sal_types.proofs.Shared.{with_front-with_front, with_front-nil}
+pub use Rattle.sal_types.proofs.Handy.{with_front-with_front, with_front-nil}
 
 pub single_at : (whole t : Text) (start i : ℕ) → i < length t
     → single whole start (drop i t) ≡ (

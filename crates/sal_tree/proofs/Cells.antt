@@ -19,7 +19,7 @@ use Rattle.sal_node.proofs.Entries.{first, second, both, less}
 use Rattle.sal_tree.specs.Grow.{cell_in, at, present}
 use Rattle.sal_tree.specs.Rows.{here, below, rows_in, rows_of}
 use Rattle.sal_tree.proofs.Laws.{eq, missing}
-use Rattle.sal_types.proofs.Shared.{then_eq}
+use Rattle.sal_types.proofs.Handy.{then_eq}
 
 pub cell-append : (xs ys : List Row) (p : List Step) → cell (xs ++ ys) p ≡ option_or (cell xs p) (cell ys p)
 cell-append [] ys p = refl

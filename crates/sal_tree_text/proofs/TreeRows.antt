@@ -12,7 +12,7 @@ use Rattle.sal_types.specs.declared.value.Step.TheVariants.{Node, Key, Item}
 use Rattle.sal_types.specs.declared.row.Row.{Row}
 use Rattle.sal_types.specs.Order.{step_cmp}
 use Rattle.sal_types.specs.Tree.{under}
-use Rattle.sal_types.proofs.Shared.{less}
+use Rattle.sal_types.proofs.Handy.{less}
 use Rattle.sal_schema.specs.declared.table.SchemaTable.{SchemaTable}
 use Rattle.sal_schema.specs.Kinds.{is_leaf, is_leaf_list, is_list}
 use Rattle.sal_schema.specs.Table.{is_kind}

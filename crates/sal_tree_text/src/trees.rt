@@ -200,7 +200,7 @@ impl<'a> TreeWriter<'a> {
         match step {
             Step::Item(value) => {
                 push_comma(text, is_later)?;
-                self.push_scalar(text, node, value)?;
+                self.push_scalar(text, node, value.value())?;
                 Ok(true)
             }
             _ => Ok(is_later),

@@ -11,7 +11,7 @@ use Rattle.regex_hir.specs.Meaning.{meaning}
 use Rattle.regex_hir.specs.declared.hir.Hir.{Hir}
 use Rattle.sal_restrict.specs.WholeTexts.{whole_text}
 use Rattle.sal_typedefs.specs.Patterns.{is_refused, is_malformed}
-use Rattle.sal_types.proofs.Shared.{within_limit, past_limit}
+use Rattle.sal_types.proofs.Handy.{within_limit, past_limit}
 
 is_taken : (r : Option (Nested Re × Names)) (hir : Hir) (names : Names)
     → IsSomeAnd r (λ (re, found). (re.depth ≤ default_config.nest_limit) × SameCaptures (meaning hir) re.value × (names ≡ found) × (group_count (meaning hir) ≤ length names))

@@ -14,7 +14,7 @@ use Rattle.sal_typedefs.specs.Blocks.{Numbers, with_first}
 use Rattle.sal_typedefs.specs.Ready.{identities_among, is_identity_of, AreNumbered, AreIdentities}
 use Rattle.sal_types.proofs.Lists.{position_from-last}
 use Rattle.sal_module.proofs.Firsts.{with_first-miss}
-pub use Rattle.sal_types.proofs.Shared.{got-at}
+pub use Rattle.sal_types.proofs.Handy.{got-at}
 
 -- ---- those among statements
 

@@ -3,5 +3,5 @@ pub mod Readers
 pub mod Trees
 pub mod Lists
 pub mod TrueParts
-pub mod Shared
+pub mod Handy
 pub mod Separated

@@ -5,6 +5,7 @@ ghost use Rattle.sal_types.specs.Order.{atom_cmp-IsAntisymmetric, value_cmp-IsAn
 
 use crate::path::Path;
 use crate::seq::Seq;
+use crate::shared::Shared;
 use crate::text::Str;
 use crate::value::{Atom, Cell, Step, Value};
 
@@ -47,6 +48,10 @@ impl Exact for Path {
 
 impl<T: Exact> Exact for Seq<T> {
     ghost separates = { slice_cmp-IsAntisymmetric T.separates };
+}
+
+impl<T: Exact> Exact for Shared<T> {
+    ghost separates = { T.separates };
 }
 
 /// Whether the two are the same value.

@@ -44,7 +44,7 @@ impl fmt::Display for Step {
         match self {
             Step::Node(node) => write!(f, "/{node}"),
             Step::Key(keys) => show_keys(keys, f),
-            Step::Item(value) => write!(f, "[.={value}]"),
+            Step::Item(value) => show_item(value.value(), f),
         }
     }
 }
@@ -62,11 +62,16 @@ impl fmt::Display for Path {
     }
 }
 
+// The value of an entry of a leaf-list.
+fn show_item<W: fmt::Write>(value: &Value, f: &mut fmt::Formatter<W>) -> fmt::Result {
+    write!(f, "[.={value}]")
+}
+
 // The values of an entry's keys.
 fn show_keys<W: fmt::Write>(keys: &Keys, f: &mut fmt::Formatter<W>) -> fmt::Result {
     f.write_str("[")?;
     let mut before = "";
-    for value in keys.items() {
+    for value in keys.value().items() {
         write!(f, "{before}{value}")?;
         before = ",";
     }

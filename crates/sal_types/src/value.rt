@@ -1,6 +1,7 @@
 //! Stores, values and cells: the content of a tree (RFC 7950 sections 7.6 to 7.8 and 9).
 use crate::memory::{Duplicate, NoMemory};
 use crate::seq::Seq;
+use crate::shared::Shared;
 use crate::text::Str;
 
 /// Bytes.
@@ -38,15 +39,15 @@ pub struct Value {
     pub atom: Atom,
 }
 
-/// The key values of a list entry.
-pub type Keys = Seq<Value>;
+/// The key values of a list entry, in the order of the schema. Copies share them.
+pub type Keys = Shared<Seq<Value>>;
 
 /// A step of a path: to a schema node by its number, to a list entry by its keys, or to a leaf-list entry by its value.
 #[derive(Debug, Drop, PartialEq, Eq, PartialOrd, Ord)]
 pub enum Step {
     Node(u32),
     Key(Keys),
-    Item(Value),
+    Item(Shared<Value>),
 }
 
 /// The content of a row: the mark of a presence container, list entry or leaf-list entry, or a leaf's value.

@@ -31,7 +31,8 @@ pub(crate) fn top(alloc: Global, node: u32) -> Result<Path, NoMemory> {
 
 /// The entry of the list with this key.
 pub(crate) fn entry(alloc: Global, key: u64) -> Result<Path, NoMemory> {
-    let keys = Seq::from_items(vec![in alloc; number(key)]?);
+    let values = vec![in alloc; number(key)]?;
+    let keys = Shared::new(alloc, Seq::from_items(values))?;
     below(top(alloc, 0)?, Step::Key(keys))
 }
 

@@ -2,7 +2,7 @@ use Rattle.std.proofs.Common.{◌≡◌, [], false, Some, None, sym, subst, ◌�
 use Rattle.std.specs.Prelude.{IfOk}
 use Rattle.std.specs.List.{fold, list_any}
 use Rattle.sal_tree.specs.Rows.{rows_of}
-use Rattle.sal_types.proofs.Shared.{not_true}
+use Rattle.sal_types.proofs.Handy.{not_true}
 use Rattle.sal_rules.specs.Breaches.{keep, breach, numbers}
 use Rattle.sal_check.specs.Near.{near}
 use Rattle.sal_check.specs.Nodes.{states}

@@ -3,7 +3,7 @@ use Rattle.std.specs.Prelude.{IfOk}
 use Rattle.std.specs.List.{fold, list_any}
 use Rattle.sal_node.specs.Tree.{Tree}
 use Rattle.sal_tree.specs.Rows.{rows_of}
-use Rattle.sal_types.proofs.Shared.{not_true}
+use Rattle.sal_types.proofs.Handy.{not_true}
 use Rattle.sal_rules.specs.Breaches.{keep, breach, numbers}
 use Rattle.sal_check.specs.Nodes.{found, states}
 use Rattle.sal_rules.specs.Places.{root_spot}

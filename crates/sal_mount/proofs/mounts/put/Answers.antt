@@ -2,7 +2,7 @@ use Rattle.std.proofs.Common.{ap, ◌∙◌}
 use Rattle.std.specs.BTreeMap.{is_at}
 use Rattle.std.specs.Map.{remove_entry}
 use Rattle.std.specs.Ordering.{nat_cmp}
-use Rattle.sal_types.proofs.Shared.{remove-insert}
+use Rattle.sal_types.proofs.Handy.{remove-insert}
 use Rattle.sal_mount.proofs.mounts.put.Goals as goal
 
 pub returns-clause-same_states : goal.returns-clause-same_states

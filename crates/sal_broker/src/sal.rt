@@ -29,10 +29,15 @@ use std::sync::Wait;
 pub const OPENING_NUMBER: u32 = 65535;
 
 /// The broker: a hub under a lock. A contract sees the name of its lock.
-#[derive(Drop)]
 pub struct Sal {
     pub(crate) lock: Turn<Shared>,
     pub(crate) growth: Growth,
+}
+
+impl Drop for Sal {
+    fn drop(self) {
+        let Sal { lock: _, growth: _ } = self;
+    }
 }
 
 impl Model for Sal {

@@ -35,10 +35,15 @@ pub(crate) enum ListFault {
 
 /// Readers for all domains: for the controller's own one by each version of its schema, and one for each device, by number. A contract
 /// sees their schemas.
-#[derive(Drop)]
 pub struct Readers {
     own: Vec<Reader>,
     devices: Vec<Reader>,
+}
+
+impl Drop for Readers {
+    fn drop(self) {
+        let Readers { own: _, devices: _ } = self;
+    }
 }
 
 impl Model for Readers {

@@ -21,11 +21,16 @@ use std::alloc::Global;
 use std::sync::Arc;
 
 /// The hub, the clients that have a place, by number, and whether their reads are checked.
-#[derive(Drop)]
 pub struct Clients {
     pub(crate) hub: Hub,
     pub(crate) callers: Vec<Caller>,
     pub(crate) checked_reads: bool,
+}
+
+impl Drop for Clients {
+    fn drop(self) {
+        let Clients { hub: _, callers: _, checked_reads: _ } = self;
+    }
 }
 
 impl Clients {

@@ -24,11 +24,16 @@ pub const CLIENTS: u32 = 65536;
 
 /// A broker: the hub over a script's opening trees with the clients that made steps, and the readers and schemas of its
 /// domains. A contract sees the hub and the clients.
-#[derive(Drop)]
 pub struct Embedded {
     clients: Clients,
     schemas: Vec<Arc<Schema>>,
     readers: Readers,
+}
+
+impl Drop for Embedded {
+    fn drop(self) {
+        let Embedded { clients: _, schemas: _, readers: _ } = self;
+    }
 }
 
 /// The hub of a broker, with the schemas and the readers of its world, and whether reads are checked.

@@ -215,10 +215,15 @@ fn with_double(
 }
 
 /// The graph of groupings.
-#[derive(Drop)]
 struct Graph {
     edges: Vec<Vec<usize>>,
     ranks: Option<Vec<usize>>,
+}
+
+impl Drop for Graph {
+    fn drop(self) {
+        let Graph { edges: _, ranks: _ } = self;
+    }
 }
 
 fn graph_of(alloc: Global, modules: &Modules, t: &Tables) -> Result<Graph, NoMemory>

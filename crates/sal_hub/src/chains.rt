@@ -8,12 +8,17 @@ use std::alloc::Global;
 
 /// For each chain, by id from 1 on: its domain, whether it is closed, the index of the entry that began its last transaction,
 /// and its last receipt.
-#[derive(Drop)]
 pub(crate) struct Chains {
     pub(crate) domains: Vec<u32>,
     pub(crate) closed: Vec<bool>,
     pub(crate) begun: Vec<Option<u64>>,
     pub(crate) sent: Vec<Option<u64>>,
+}
+
+impl Drop for Chains {
+    fn drop(self) {
+        let Chains { domains: _, closed: _, begun: _, sent: _ } = self;
+    }
 }
 
 impl Chains {

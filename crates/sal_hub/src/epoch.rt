@@ -18,7 +18,7 @@ impl Hub {
         ensures next { result ≡ next_hub rules self }
         ensures leader { OpensAtTheNewest self result.world }
     {
-        let domains = begun(self.pipeline.domains, rules);
+        let domains = begun(self.into_pipeline().domains, rules);
         hub_of(alloc, domains)
     }
 }

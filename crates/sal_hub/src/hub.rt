@@ -54,7 +54,6 @@ pub const MAX_ENTRIES: usize = 1000000;
 pub const MAX_PENDING: usize = 4096;
 
 /// The hub: the log of the calls, and its state. A contract sees the opening trees of the domains and the log.
-#[derive(Drop)]
 pub struct Hub {
     pub(crate) pipeline: Pipeline,
     pub(crate) journal: Journal,
@@ -62,6 +61,27 @@ pub struct Hub {
     pub(crate) marks: Marks,
     pub(crate) listeners: Listeners,
     pub(crate) services: Services,
+}
+
+impl Hub {
+    // The pipeline. All else is dropped.
+    pub(crate) fn into_pipeline(self) -> Pipeline {
+        let Hub {
+            pipeline,
+            journal: _,
+            chains: _,
+            marks: _,
+            listeners: _,
+            services: _,
+        } = self;
+        pipeline
+    }
+}
+
+impl Drop for Hub {
+    fn drop(self) {
+        let Hub { pipeline: _, journal: _, chains: _, marks: _, listeners: _, services: _ } = self;
+    }
 }
 
 impl Model for Hub {

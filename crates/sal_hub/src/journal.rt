@@ -11,11 +11,16 @@ use std::marker::Model;
 
 /// The log, a flag at each index whose transaction is spent, and the counts of the clients' entries. A contract sees the
 /// log and the flags.
-#[derive(Drop)]
 pub(crate) struct Journal {
     entries: Vec<Entry>,
     marks: Vec<bool>,
     counts: Counts,
+}
+
+impl Drop for Journal {
+    fn drop(self) {
+        let Journal { entries: _, marks: _, counts: _ } = self;
+    }
 }
 
 impl Model for Journal {

@@ -34,7 +34,6 @@ impl ListenerId {
 
 /// The record of a listener: its client, its path and store, the number of the commit up to which it has taken, and
 /// whether it was not removed yet.
-#[derive(Drop)]
 pub(crate) struct Listener {
     pub(crate) client: u32,
     pub(crate) domain: u32,
@@ -42,4 +41,10 @@ pub(crate) struct Listener {
     pub(crate) path: Path,
     pub(crate) version: u64,
     pub(crate) live: bool,
+}
+
+impl Drop for Listener {
+    fn drop(self) {
+        let Listener { client: _, domain: _, store: _, path: _, version: _, live: _ } = self;
+    }
 }

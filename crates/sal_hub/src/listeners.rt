@@ -8,10 +8,15 @@ use std::alloc::Global;
 pub const MAX_LISTENERS: u32 = 256;
 
 /// The listeners, by number from 1 on, and how many of them are live.
-#[derive(Drop)]
 pub(crate) struct Listeners {
     pub(crate) list: Vec<Listener>,
     pub(crate) live: u32,
+}
+
+impl Drop for Listeners {
+    fn drop(self) {
+        let Listeners { list: _, live: _ } = self;
+    }
 }
 
 impl Listeners {

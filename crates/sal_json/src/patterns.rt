@@ -178,11 +178,16 @@ fn add_type(alloc: Global, ty: &YangType, types: &mut Vec<Seq<Wholes>>) -> Resul
 /// The patterns of a schema, compiled: a list for each type, and in it one for each member of a union.
 ///
 /// A contract sees the texts of the patterns that are searched for. Older versions of the schema share them.
-#[derive(Drop)]
 pub struct Patterns {
     types: Arc<Vec<Seq<Wholes>>>,
     /// The number of these types.
     count: u32,
+}
+
+impl Drop for Patterns {
+    fn drop(self) {
+        let Patterns { types: _, count: _ } = self;
+    }
 }
 
 impl Model for Patterns {

@@ -19,10 +19,16 @@ pub enum MirrorFault {
 }
 
 /// A copy of a listener's rows, with the number of the commit that they are of.
-#[derive(Debug, Drop)]
+#[derive(Debug)]
 pub struct Mirror {
     version: u64,
     rows: Rows,
+}
+
+impl Drop for Mirror {
+    fn drop(self) {
+        let Mirror { version: _, rows: _ } = self;
+    }
 }
 
 impl Mirror {

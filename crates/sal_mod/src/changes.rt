@@ -17,13 +17,18 @@ use std::marker::Model;
 use std::sync::Arc;
 
 /// The operations of a transaction, in the order in which they were added.
-#[derive(Drop)]
 pub struct Mod {
     list: Held,
     /// None while the operations are few.
     covers: Option<Covers>,
     /// Whether one of them is a read.
     has_reads: bool,
+}
+
+impl Drop for Mod {
+    fn drop(self) {
+        let Mod { list: _, covers: _, has_reads: _ } = self;
+    }
 }
 
 impl Model for Mod {

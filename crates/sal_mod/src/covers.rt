@@ -14,10 +14,15 @@ use std::alloc::Global;
 const FEW: usize = 8;
 
 /// The index of the first put or delete at each path, and that of the first read.
-#[derive(Drop)]
 pub(crate) struct Covers {
     pub(crate) writes: Firsts,
     pub(crate) reads: Firsts,
+}
+
+impl Drop for Covers {
+    fn drop(self) {
+        let Covers { writes: _, reads: _ } = self;
+    }
 }
 
 impl Covers {

@@ -14,10 +14,15 @@ use sal_types::{NoMemory, Path, Step, Store};
 use std::alloc::Global;
 
 /// The index of the first operation at each path, by store.
-#[derive(Drop)]
 pub(crate) struct Firsts {
     pub(crate) config: Places,
     pub(crate) oper: Places,
+}
+
+impl Drop for Firsts {
+    fn drop(self) {
+        let Firsts { config: _, oper: _ } = self;
+    }
 }
 
 impl Firsts {

@@ -27,11 +27,16 @@ const MAX_MODULES: usize = 64;
 const MAX_BLOCKS: u32 = 64;
 
 /// Modules within the profile, whose imports have no cycle. A contract sees the list of their statements.
-#[derive(Drop)]
 pub struct Modules {
     list: Vec<Stmt>,
     prefixes: Vec<Prefixes>,
     in_order: bool,
+}
+
+impl Drop for Modules {
+    fn drop(self) {
+        let Modules { list: _, prefixes: _, in_order: _ } = self;
+    }
 }
 
 impl Model for Modules {

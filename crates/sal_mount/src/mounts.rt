@@ -16,11 +16,16 @@ use std::collections::BTreeMap;
 use std::marker::Model;
 
 /// Which device is mounted at which path. A contract sees a register of the calls.
-#[derive(Drop)]
 pub struct Mounts {
     devices: u32,
     places: BTreeMap<Path, u32>,
     states: BTreeMap<u32, bool>,
+}
+
+impl Drop for Mounts {
+    fn drop(self) {
+        let Mounts { devices: _, places: _, states: _ } = self;
+    }
 }
 
 impl Model for Mounts {

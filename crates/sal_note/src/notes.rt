@@ -22,10 +22,15 @@ use std::marker::Model;
 pub const MAX_WAITING: usize = 64;
 
 /// The subscribers, and the queue of each client. A contract sees the boxes of the calls.
-#[derive(Drop)]
 pub struct Notes {
     subscribed: BTreeMap<u32, Clients>,
     queues: BTreeMap<u32, Queue>,
+}
+
+impl Drop for Notes {
+    fn drop(self) {
+        let Notes { subscribed: _, queues: _ } = self;
+    }
 }
 
 impl Model for Notes {

@@ -86,10 +86,15 @@ pub(crate) fn own_versions(alloc: Global, script: &Script) -> Result<Versions, S
 
 /// The schemas of all domains, to be shared by readers and writers: all versions of that of domain 0, version 0 first, and those of
 /// the devices.
-#[derive(Drop)]
 pub(crate) struct Schemas {
     pub(crate) own: Vec<Arc<Schema>>,
     pub(crate) devices: Vec<Arc<Schema>>,
+}
+
+impl Drop for Schemas {
+    fn drop(self) {
+        let Schemas { own: _, devices: _ } = self;
+    }
 }
 
 /// The schemas of all domains.

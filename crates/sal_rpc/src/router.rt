@@ -21,11 +21,16 @@ use std::collections::BTreeMap;
 use std::marker::Model;
 
 /// The providers of RPCs, and the requests. A contract sees the routes of the calls.
-#[derive(Drop)]
 pub struct Router {
     providers: BTreeMap<Service, u32>,
     requests: Vec<Sent>,
     queues: BTreeMap<u32, Queue>,
+}
+
+impl Drop for Router {
+    fn drop(self) {
+        let Router { providers: _, requests: _, queues: _ } = self;
+    }
 }
 
 impl Model for Router {

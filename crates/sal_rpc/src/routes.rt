@@ -16,12 +16,17 @@ pub(crate) struct Service {
 }
 
 /// A request: its client, its provider, whether it was taken, and its answer.
-#[derive(Drop)]
 pub(crate) struct Sent {
     pub(crate) by: u32,
     pub(crate) owner: u32,
     pub(crate) handed: bool,
     pub(crate) answer: Option<Rows>,
+}
+
+impl Drop for Sent {
+    fn drop(self) {
+        let Sent { by: _, owner: _, handed: _, answer: _ } = self;
+    }
 }
 
 /// The requests that wait for a client, in order.

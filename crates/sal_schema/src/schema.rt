@@ -20,7 +20,6 @@ use std::alloc::Global;
 use std::marker::Model;
 
 /// A schema, seen as its table.
-#[derive(Drop)]
 pub struct Schema {
     pub(crate) table: SchemaTable,
     top: Vec<u32>,
@@ -31,6 +30,12 @@ pub struct Schema {
     rpcs: Index,
     notifications: Index,
     identities: Index,
+}
+
+impl Drop for Schema {
+    fn drop(self) {
+        let Schema { table: _, top: _, below: _, data_parents: _, modules: _, data_nodes: _, rpcs: _, notifications: _, identities: _ } = self;
+    }
 }
 
 impl Model for Schema {

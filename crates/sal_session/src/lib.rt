@@ -49,10 +49,15 @@ pub const UNTOLD: u32 = 27;
 pub const BROKEN: u32 = 28;
 
 /// A broker, or none if none was opened, with the text of the last call: a reply, a report, or why no broker was opened.
-#[derive(Drop)]
 pub struct Session {
     pub(crate) broker: Option<Embedded>,
     pub(crate) reply: Str,
+}
+
+impl Drop for Session {
+    fn drop(self) {
+        let Session { broker: _, reply: _ } = self;
+    }
 }
 
 impl Session {

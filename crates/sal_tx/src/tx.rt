@@ -20,18 +20,28 @@ use std::marker::Model;
 use std::sync::Arc;
 
 /// A transaction that only reads: it sees its base.
-#[derive(Drop)]
 pub struct ReadTx {
     begun: Begun,
     base: Pair,
 }
 
+impl Drop for ReadTx {
+    fn drop(self) {
+        let ReadTx { begun: _, base: _ } = self;
+    }
+}
+
 /// A transaction that writes: it sees its base with its own writes applied. A contract sees its parts.
-#[derive(Drop)]
 pub struct WriteTx {
     parts: Writing,
     /// Its base with its operations applied, once it was needed: by a read, or by a second write.
     view: Option<Pair>,
+}
+
+impl Drop for WriteTx {
+    fn drop(self) {
+        let WriteTx { parts: _, view: _ } = self;
+    }
 }
 
 impl Model for WriteTx {

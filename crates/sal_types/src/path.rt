@@ -27,9 +27,15 @@ pub enum PathFault {
 /// A path from the root, at most 32 steps. The empty path is the root.
 ///
 /// Paths are ordered step by step, so a path comes before the paths that it is a prefix of.
-#[derive(Debug, Drop)]
+#[derive(Debug)]
 pub struct Path {
     list: Vec<Step>,
+}
+
+impl Drop for Path {
+    fn drop(self) {
+        let Path { list: _ } = self;
+    }
 }
 
 impl Model for Path {

@@ -11,9 +11,15 @@ use std::cmp::Ordering;
 use std::marker::Model;
 
 /// A text. Texts are ordered by their bytes.
-#[derive(Debug, Drop)]
+#[derive(Debug)]
 pub struct Str {
     text: String,
+}
+
+impl Drop for Str {
+    fn drop(self) {
+        let Str { text: _ } = self;
+    }
 }
 
 impl Model for Str {

@@ -1,5 +1,5 @@
 // Rows of the list 0, whose entries have their key, node 1, and a leaf, node 2, and rows of the leafs 4 and 5 of the container 3.
-use sal_types::{Atom, Cell, NoMemory, Path, Row, Seq, Step, Str, Value};
+use sal_types::{Atom, Cell, NoMemory, Path, Row, Seq, Shared, Step, Str, Value};
 use std::alloc::Global;
 
 fn number(value: u64) -> Value {

@@ -32,7 +32,12 @@ pub struct Caller {
 
 impl Drop for Caller {
     fn drop(self) {
-        let Caller { number: _, run: _, lines: _, told: _ } = self;
+        let Caller {
+            number: _,
+            run: _,
+            lines: _,
+            told: _,
+        } = self;
     }
 }
 

@@ -29,11 +29,27 @@ pub struct Clients {
 
 impl Drop for Clients {
     fn drop(self) {
-        let Clients { hub: _, callers: _, checked_reads: _ } = self;
+        let Clients {
+            hub: _,
+            callers: _,
+            checked_reads: _,
+        } = self;
     }
 }
 
 impl Clients {
+    /// The hub. The clients are dropped, with the lines of their steps.
+    pub(crate) fn into_hub(self) -> Hub
+        ensures { result ≡ self.hub }
+    {
+        let Clients {
+            hub,
+            callers: _,
+            checked_reads: _,
+        } = self;
+        hub
+    }
+
     /// Makes a place for the client, and for each of a lower number.
     pub(crate) fn place(&mut self, alloc: Global, client: u32) -> Result<(), NoMemory>
         requires callers { AreCallers self.old.hub self.old.callers.items }

@@ -32,7 +32,11 @@ pub struct Embedded {
 
 impl Drop for Embedded {
     fn drop(self) {
-        let Embedded { clients: _, schemas: _, readers: _ } = self;
+        let Embedded {
+            clients: _,
+            schemas: _,
+            readers: _,
+        } = self;
     }
 }
 
@@ -141,13 +145,9 @@ impl Embedded {
             schemas,
             readers,
         } = self;
-        let Clients {
-            hub,
-            checked_reads,
-            ..
-        } = clients;
+        let checked_reads = clients.checked_reads;
         OpenHub {
-            hub,
+            hub: clients.into_hub(),
             schemas,
             readers,
             checked_reads,

@@ -17,7 +17,12 @@ pub(crate) struct Chains {
 
 impl Drop for Chains {
     fn drop(self) {
-        let Chains { domains: _, closed: _, begun: _, sent: _ } = self;
+        let Chains {
+            domains: _,
+            closed: _,
+            begun: _,
+            sent: _,
+        } = self;
     }
 }
 

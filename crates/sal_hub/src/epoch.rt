@@ -18,7 +18,8 @@ impl Hub {
         ensures next { result ≡ next_hub rules self }
         ensures leader { OpensAtTheNewest self result.world }
     {
-        let domains = begun(self.into_pipeline().domains, rules);
+        let (_, pipeline) = self.into_parts();
+        let domains = begun(pipeline.domains, rules);
         hub_of(alloc, domains)
     }
 }

@@ -64,23 +64,35 @@ pub struct Hub {
 }
 
 impl Hub {
-    // The pipeline. All else is dropped.
-    pub(crate) fn into_pipeline(self) -> Pipeline {
+    ghost use Rattle.sal_hub.specs.Current.{IsKept, known_of};
+
+    // The log and the pipeline. All else is dropped.
+    pub(crate) fn into_parts(self) -> (Journal, Pipeline)
+        ensures known { known_of result.0 result.1 ≡ self }
+        ensures kept { IsKept result.0 result.1 }
+    {
         let Hub {
             pipeline,
+            journal,
+            chains: _,
+            marks: _,
+            listeners: _,
+            services: _,
+        } = self;
+        (journal, pipeline)
+    }
+}
+
+impl Drop for Hub {
+    fn drop(self) {
+        let Hub {
+            pipeline: _,
             journal: _,
             chains: _,
             marks: _,
             listeners: _,
             services: _,
         } = self;
-        pipeline
-    }
-}
-
-impl Drop for Hub {
-    fn drop(self) {
-        let Hub { pipeline: _, journal: _, chains: _, marks: _, listeners: _, services: _ } = self;
     }
 }
 

@@ -19,7 +19,11 @@ pub(crate) struct Journal {
 
 impl Drop for Journal {
     fn drop(self) {
-        let Journal { entries: _, marks: _, counts: _ } = self;
+        let Journal {
+            entries: _,
+            marks: _,
+            counts: _,
+        } = self;
     }
 }
 

@@ -45,6 +45,13 @@ pub(crate) struct Listener {
 
 impl Drop for Listener {
     fn drop(self) {
-        let Listener { client: _, domain: _, store: _, path: _, version: _, live: _ } = self;
+        let Listener {
+            client: _,
+            domain: _,
+            store: _,
+            path: _,
+            version: _,
+            live: _,
+        } = self;
     }
 }

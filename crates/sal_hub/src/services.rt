@@ -12,6 +12,10 @@ pub(crate) struct Services {
 
 impl Drop for Services {
     fn drop(self) {
-        let Services { mounts: _, router: _, notes: _ } = self;
+        let Services {
+            mounts: _,
+            router: _,
+            notes: _,
+        } = self;
     }
 }

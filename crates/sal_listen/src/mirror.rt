@@ -27,7 +27,10 @@ pub struct Mirror {
 
 impl Drop for Mirror {
     fn drop(self) {
-        let Mirror { version: _, rows: _ } = self;
+        let Mirror {
+            version: _,
+            rows: _,
+        } = self;
     }
 }
 

@@ -27,7 +27,11 @@ pub struct Mod {
 
 impl Drop for Mod {
     fn drop(self) {
-        let Mod { list: _, covers: _, has_reads: _ } = self;
+        let Mod {
+            list: _,
+            covers: _,
+            has_reads: _,
+        } = self;
     }
 }
 

@@ -21,7 +21,10 @@ pub(crate) struct Covers {
 
 impl Drop for Covers {
     fn drop(self) {
-        let Covers { writes: _, reads: _ } = self;
+        let Covers {
+            writes: _,
+            reads: _,
+        } = self;
     }
 }
 

@@ -35,7 +35,11 @@ pub struct Modules {
 
 impl Drop for Modules {
     fn drop(self) {
-        let Modules { list: _, prefixes: _, in_order: _ } = self;
+        let Modules {
+            list: _,
+            prefixes: _,
+            in_order: _,
+        } = self;
     }
 }
 

@@ -24,7 +24,11 @@ pub struct Mounts {
 
 impl Drop for Mounts {
     fn drop(self) {
-        let Mounts { devices: _, places: _, states: _ } = self;
+        let Mounts {
+            devices: _,
+            places: _,
+            states: _,
+        } = self;
     }
 }
 

@@ -9,8 +9,8 @@ ghost use Rattle.sal_node.specs.Shape.{tree_in, tree_at, seen};
 
 use crate::node::{Child, Node, Paging};
 use crate::paging::{
-    count_children,
-    all_children, changed_paging, child_of, has_children, made_children, shared_paging,
+    all_children, changed_paging, child_of, count_children, has_children, made_children,
+    shared_paging,
 };
 use sal_types::{Cell, Duplicate, NoMemory, Step};
 use std::alloc::Global;

@@ -29,7 +29,10 @@ pub struct Notes {
 
 impl Drop for Notes {
     fn drop(self) {
-        let Notes { subscribed: _, queues: _ } = self;
+        let Notes {
+            subscribed: _,
+            queues: _,
+        } = self;
     }
 }
 

@@ -147,7 +147,13 @@ fn push_step(
             push_name(out, schema, here, *node)?;
             Ok(())
         }
-        (Step::Key(values), Some(node)) => push_keys(alloc, out, schema, node, values.value().items()),
+        (Step::Key(values), Some(node)) => push_keys(
+            alloc,
+            out,
+            schema,
+            node,
+            values.value().items(),
+        ),
         (Step::Item(value), Some(node)) => push_item(alloc, out, schema, node, value.value()),
         _ => Ok(()),
     }

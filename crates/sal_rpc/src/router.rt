@@ -29,7 +29,11 @@ pub struct Router {
 
 impl Drop for Router {
     fn drop(self) {
-        let Router { providers: _, requests: _, queues: _ } = self;
+        let Router {
+            providers: _,
+            requests: _,
+            queues: _,
+        } = self;
     }
 }
 

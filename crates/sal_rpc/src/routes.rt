@@ -25,7 +25,12 @@ pub(crate) struct Sent {
 
 impl Drop for Sent {
     fn drop(self) {
-        let Sent { by: _, owner: _, handed: _, answer: _ } = self;
+        let Sent {
+            by: _,
+            owner: _,
+            handed: _,
+            answer: _,
+        } = self;
     }
 }
 

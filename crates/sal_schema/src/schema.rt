@@ -34,7 +34,17 @@ pub struct Schema {
 
 impl Drop for Schema {
     fn drop(self) {
-        let Schema { table: _, top: _, below: _, data_parents: _, modules: _, data_nodes: _, rpcs: _, notifications: _, identities: _ } = self;
+        let Schema {
+            table: _,
+            top: _,
+            below: _,
+            data_parents: _,
+            modules: _,
+            data_nodes: _,
+            rpcs: _,
+            notifications: _,
+            identities: _,
+        } = self;
     }
 }
 

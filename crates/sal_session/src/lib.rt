@@ -56,7 +56,10 @@ pub struct Session {
 
 impl Drop for Session {
     fn drop(self) {
-        let Session { broker: _, reply: _ } = self;
+        let Session {
+            broker: _,
+            reply: _,
+        } = self;
     }
 }
 

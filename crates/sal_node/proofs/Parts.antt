@@ -1,8 +1,8 @@
 -- The entries of a list of parts, as of children, pages or sheets, part by part.
-use Rattle.std.proofs.Common.{◌≡◌, ℕ, suc, zero, ◌+◌, ◌<◌, Bool, true, false, List, [], ◌∷◌, ◌++◌, length, take, drop, get_or, Option, refl, ap, sym, ◌∙◌, subst, append_assoc, append-nil, arith}
+use Rattle.std.proofs.Common.{◌≡◌, ℕ, suc, zero, ◌+◌, ◌<◌, ◌≤◌, Bool, true, false, List, [], ◌∷◌, ◌++◌, length, take, drop, get_or, Option, refl, ap, sym, ◌∙◌, subst, append_assoc, append-nil, arith}
 use Rattle.std.specs.Prelude.{T}
 use Rattle.std.proofs.Math.Seq.{drop-cons}
-use Rattle.std.proofs.lemmas.List.{take_more, take-append-drop}
+use Rattle.std.proofs.lemmas.List.{length-append, take_more, take-append-drop}
 use Rattle.std.specs.FinMap.{find, is_sorted}
 use Rattle.std.specs.FinMap.Entries.{below_all}
 use Rattle.sal_types.specs.declared.value.Step.{Step}
@@ -58,6 +58,17 @@ module _ {P : Type 0} (content : P → Entries) (all : List P → Entries) (none
       ∙ ap (λ (r : Entries). all (take i ps) ++ r) (more (get_or ps i p) (drop (suc i) ps))
       ∙ ap (λ (q : P). all (take i ps) ++ (content q ++ all (drop (suc i) ps))) (sym at)
       ∙ ap (λ m. all (take i ps) ++ (content p ++ all (drop m ps))) n
+
+  -- how many entries the first parts have, and all parts
+  pub counted-next : (ps : List P) (i : ℕ) (p : P) (n : ℕ) → i < length ps → p ≡ get_or ps i p → n ≡ length (content p) → length (all (take (i + 1) ps)) ≡ length (all (take i ps)) + n
+  counted-next ps i p n l at is =
+      sym (ap length (next ps i p (content p) [] (all (take i ps)) (all (take i ps) ++ content p) l (ap content (sym at)) refl refl))
+      ∙ length-append (all (take i ps)) (content p) ∙ ap (λ m. length (all (take i ps)) + m) (sym is)
+
+  pub counted-within : (ps : List P) (i : ℕ) (p : P) (n : ℕ) → i < length ps → p ≡ get_or ps i p → n ≡ length (content p) → length (all (take i ps)) + n ≤ length (all ps)
+  counted-within ps i p n l at is =
+      let back = all (drop (i + 1) ps) in
+      omega (arith, ap length (split ps i p l at), length-append (all (take i ps)) (content p ++ back), length-append (content p) back, is)
 
   pub part-sorted : (ps : List P) (i : ℕ) (p : P) → i < length ps → p ≡ get_or ps i p → IsSorted (all ps) → IsSorted (content p)
   part-sorted ps i p l at h = sorted-front_part (content p) (all (drop (i + 1) ps)) (sorted-tail (all (take i ps)) _ (subst IsSorted (split ps i p l at) h))

@@ -1,5 +1,5 @@
 //! The parts of a node, and nodes with one part replaced.
-ghost use Rattle.std.specs.Prelude.{◌≡◌, Option, Some, None, T, IfOk, IfSome};
+ghost use Rattle.std.specs.Prelude.{◌≡◌, ◌≤◌, ◌↔◌, IsTrue, length, Option, Some, None, T, IfOk, IfSome};
 ghost use Rattle.std.specs.Prelude.{nat_eq};
 ghost use Rattle.std.specs.List.{filter, list_any};
 ghost use Rattle.std.specs.FinMap.{find, is_sorted};
@@ -9,8 +9,7 @@ ghost use Rattle.sal_node.specs.Shape.{tree_in, tree_at, seen};
 
 use crate::node::{Child, Node, Paging};
 use crate::paging::{
-    all_children, changed_paging, child_of, count_children, has_children, made_children,
-    shared_paging,
+    all_children, are_at_most, changed_paging, child_of, has_children, made_children, shared_paging,
 };
 use sal_types::{Cell, Duplicate, NoMemory, Step};
 use std::alloc::Global;
@@ -60,9 +59,11 @@ impl Node {
         Ok(with_cell)
     }
 
-    /// How many children it has. It takes no memory.
-    pub fn count(&self) -> usize {
-        count_children(&self.paging)
+    /// Whether it has at most so many children, by the lengths of its pages. It takes no memory.
+    pub fn has_at_most(&self, most: usize) -> bool
+        ensures { IsTrue result ↔ (length (pairs self.now.kids) ≤ most) }
+    {
+        are_at_most(&self.paging, most)
     }
 
     /// Its children, in order.

@@ -1,5 +1,5 @@
 //! The pages of a node.
-ghost use Rattle.std.specs.Prelude.{◌≡◌, ◌+◌, ◌-◌, ◌<◌, ◌≤◌, ◌⊎◌, ℕ, [], ◌++◌, ◌∷◌, length, IfOk, OnOk, take, drop};
+ghost use Rattle.std.specs.Prelude.{◌≡◌, ◌+◌, ◌-◌, ◌<◌, ◌≤◌, ◌⊎◌, ℕ, [], ◌++◌, ◌∷◌, length, IfOk, MatchOption, OnOk, take, drop};
 ghost use Rattle.std.specs.List.{position};
 ghost use Rattle.sal_types.specs.Order.{step_cmp};
 ghost use Rattle.std.specs.Ordering.{is_le};
@@ -445,4 +445,19 @@ pub(crate) fn push_made_pages<'x, 'a>(
         push_made(into, &page.children, stamps)?;
     }
     Ok(())
+}
+
+/// How many more children than those of the pages fit into the room; none if they do not fit themselves.
+pub(crate) fn room_after(pages: &[Arc<Page>], room: usize) -> Option<usize>
+    ensures { MatchOption result (room < length (listed pages.now)) (λ left. left + length (listed pages.now) ≡ room) }
+{
+    let mut left = room;
+    for page in pages {
+        let count = page.children.len();
+        if left < count {
+            return None;
+        }
+        left -= count;
+    }
+    Some(left)
 }

@@ -1,5 +1,5 @@
 //! The children of a node, alone, in pages or in sheets.
-ghost use Rattle.std.specs.Prelude.{◌≡◌, ◌≤◌, ◌++◌, length, IfOk, OnOk, T};
+ghost use Rattle.std.specs.Prelude.{◌≡◌, ◌≤◌, ◌++◌, ◌↔◌, IsTrue, length, IfOk, OnOk, T};
 ghost use Rattle.sal_types.specs.Order.{step_cmp};
 ghost use Rattle.std.specs.FinMap.{find, is_sorted};
 ghost use Rattle.sal_node.specs.Tree.{change, grove, is_filled};
@@ -10,11 +10,11 @@ ghost use Rattle.sal_node.specs.Shape.{AreFrom, made_by};
 use crate::node::{Child, Node, Page, Paging, Sheet};
 use crate::pages::{
     PAGE, add_pages, changed, changed_pages, child_at, copy_children, found, least, page_of,
-    parting, push_children, push_made, push_made_pages, push_pages, share_pages,
+    parting, push_children, push_made, push_made_pages, push_pages, room_after, share_pages,
 };
 use crate::sheets::{
-    add_sheets, changed_sheets, child_in, push_made_sheets, push_sheets, share_sheets, sheet_of,
-    sheet_parting,
+    add_sheets, changed_sheets, child_in, push_made_sheets, push_sheets, room_after_sheets,
+    share_sheets, sheet_of, sheet_parting,
 };
 use sal_types::{NoMemory, Step};
 use std::alloc::Global;
@@ -143,27 +143,15 @@ pub(crate) fn child_of<'a>(paging: &'a Paging, step: &Step) -> Option<&'a Arc<No
     }
 }
 
-/// How many children there are: by the lengths of their pages.
-pub(crate) fn count_children(paging: &Paging) -> usize {
+/// Whether there are at most so many children, by the lengths of their pages.
+pub(crate) fn are_at_most(paging: &Paging, most: usize) -> bool
+    ensures { IsTrue result ↔ (length (paged paging.now) ≤ most) }
+{
     match paging {
-        Paging::Few(children) => children.len(),
-        Paging::Pages(pages) => count_in(pages),
-        Paging::Sheets(sheets) => {
-            let mut count = 0;
-            for sheet in sheets {
-                count = count + count_in(&sheet.pages);
-            }
-            count
-        }
+        Paging::Few(children) => children.len() <= most,
+        Paging::Pages(pages) => room_after(pages, most).is_some(),
+        Paging::Sheets(sheets) => room_after_sheets(sheets, most).is_some(),
     }
-}
-
-fn count_in(pages: &[Arc<Page>]) -> usize {
-    let mut count = 0;
-    for page in pages {
-        count = count + page.children.len();
-    }
-    count
 }
 
 /// Whether there are children.

@@ -1,5 +1,5 @@
 //! The sheets of a node of many children.
-ghost use Rattle.std.specs.Prelude.{◌≡◌, ◌+◌, ◌<◌, ◌≤◌, ◌++◌, length, IfOk, OnOk, take, drop};
+ghost use Rattle.std.specs.Prelude.{◌≡◌, ◌+◌, ◌<◌, ◌≤◌, ◌++◌, length, IfOk, MatchOption, OnOk, take, drop};
 ghost use Rattle.sal_types.specs.Order.{step_cmp};
 ghost use Rattle.std.specs.Prelude.{T};
 ghost use Rattle.std.specs.FinMap.{find, is_sorted};
@@ -11,7 +11,7 @@ ghost use Rattle.sal_node.specs.Shape.{UpTo, AreFrom, made_by};
 use crate::node::{Child, Node, Page, Sheet};
 use crate::pages::{
     PAGE, changed_pages, child_at, first_page, is_after, larger, newest_with, parting,
-    push_made_pages, push_pages,
+    push_made_pages, push_pages, room_after,
 };
 use sal_types::{NoMemory, Step};
 use std::alloc::Global;
@@ -277,4 +277,15 @@ pub(crate) fn push_made_sheets<'x, 'a>(
         push_made_pages(into, &sheet.pages, stamps, least)?;
     }
     Ok(())
+}
+
+/// How many more children than those of the sheets fit into the room; none if they do not fit themselves.
+pub(crate) fn room_after_sheets(sheets: &[Arc<Sheet>], room: usize) -> Option<usize>
+    ensures { MatchOption result (room < length (sheeted sheets.now)) (λ left. left + length (sheeted sheets.now) ≡ room) }
+{
+    let mut left = room;
+    for sheet in sheets {
+        left = room_after(&sheet.pages, left)?;
+    }
+    Some(left)
 }

@@ -23,6 +23,14 @@ own_steps-append (e ∷ xs) ys = elim (is_some e.1.cell) as (λ b. (if b then e.
   | false ↦ own_steps-append xs ys
 ]
 
+-- no more children have a cell than there are
+pub own_steps-within : (es : Entries) → length (own_steps es) ≤ length es
+own_steps-within [] = omega arith
+own_steps-within (e ∷ es) = elim (is_some e.1.cell) as (λ b. length (if b then e.0 ∷ own_steps es else own_steps es) ≤ length (e ∷ es)) [
+  | true ↦ let rest = own_steps-within es in omega (arith, rest)
+  | false ↦ let rest = own_steps-within es in omega (arith, rest)
+]
+
 own-one : (x : Step) (t : Tree) → length (own_steps ((x, t) ∷ [])) ≡ (if is_some t.cell then 1 else 0)
 own-one x t = elim (is_some t.cell) as (λ b. length (if b then x ∷ [] else []) ≡ (if b then 1 else 0)) [ true ↦ refl | false ↦ refl ]
 

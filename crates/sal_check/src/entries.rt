@@ -1,5 +1,5 @@
 //! The number of entries of a list.
-ghost use Rattle.std.specs.Prelude.{◌≡◌, ◌≤◌, IfOk, length, is_some, if◌then◌else◌};
+ghost use Rattle.std.specs.Prelude.{◌≡◌, ◌≤◌, IfOk, length, nat_lt, is_some, if◌then◌else◌};
 ghost use Rattle.sal_node.specs.Shape.{tree_at};
 ghost use Rattle.sal_tree.specs.Grow.{kids_in};
 ghost use Rattle.sal_check.specs.Nodes.{own_steps};
@@ -30,4 +30,21 @@ pub(crate) fn count(alloc: Global, node: Option<&Arc<Node>>) -> Result<usize, No
         count += own(child);
     }
     Ok(count)
+}
+
+/// Whether more than so many children have a cell. The children of a node that has no more are not read.
+pub(crate) fn are_above(
+    alloc: Global,
+    node: Option<&Arc<Node>>,
+    most: usize,
+) -> Result<bool, NoMemory>
+    ensures { IfOk result (λ b. b ≡ nat_lt most (length (own_steps (kids_in (tree_at node.entry))))) }
+{
+    if let Some(node) = node {
+        if node.has_at_most(most) {
+            return Ok(false);
+        }
+    }
+    let entries = count(alloc, node)?;
+    Ok(entries > most)
 }

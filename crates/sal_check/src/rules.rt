@@ -10,7 +10,7 @@ ghost use Rattle.sal_rules.specs.Rules as spec;
 ghost use Rattle.sal_rows.specs.declared.outcome.Rule.TheVariants.{Mandatory, MinElements, MaxElements, TwoCases};
 
 use crate::climb::{context, stand, way};
-use crate::entries::count;
+use crate::entries::{are_above, count};
 use crate::walk::{Place, Walk};
 use sal_node::Node;
 use sal_schema::{Kind, Schema};
@@ -171,13 +171,7 @@ pub(crate) fn has_too_many(walk: &Walk, place: &Place, number: u32) -> Result<bo
         return Ok(false);
     };
     let list = child_of(Some(place.node), &Step::Node(number));
-    if let Some(node) = list {
-        if node.count() <= most as usize {
-            return Ok(false);
-        }
-    }
-    let entries = count(walk.alloc, list)?;
-    Ok(entries > most as usize)
+    are_above(walk.alloc, list, most as usize)
 }
 
 fn one_if_there(schema: &Schema, node: Option<&Arc<Node>>, number: u32) -> usize

@@ -285,7 +285,10 @@ pub(crate) fn room_after_sheets(sheets: &[Arc<Sheet>], room: usize) -> Option<us
 {
     let mut left = room;
     for sheet in sheets {
-        left = room_after(&sheet.pages, left)?;
+        match room_after(&sheet.pages, left) {
+            None => return None,
+            Some(rest) => left = rest,
+        }
     }
     Some(left)
 }

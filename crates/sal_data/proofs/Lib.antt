@@ -31,3 +31,4 @@ pub mod SortedRows
 pub mod Steps
 pub mod TreeParts
 pub mod Walking
+mod AnyPath

@@ -41,7 +41,8 @@ fn is_asked(asked: &Step, step: Step) -> bool
 }
 
 impl<'a> Reader<'a> {
-    /// The step to the list entry at the path, by the keys in the JSON value.
+    /// The step to the list entry at the path, by the keys in the JSON value. The path of the list is made for a fault alone.
+    #[tactic(auto, using(crate::proofs::AnyPath::keys_anywhere))]
     fn entry_step(&self, node: u32, path: &Path, json: &Json) -> Result<Step, DataFault>
         ensures { GivesUnless DataFault.NoMemory (λ step. step) result (spec.key_step self.now.schema.now node (spec.before_last path.now) (view json.now)) }
     {
@@ -52,7 +53,8 @@ impl<'a> Reader<'a> {
         self.key_step(node, &list, json)
     }
 
-    /// The step to the leaf-list entry at the path, by the JSON value.
+    /// The step to the leaf-list entry at the path, by the JSON value. The path of the leaf-list is made for a fault alone.
+    #[tactic(auto, using(crate::proofs::AnyPath::items_anywhere))]
     fn value_step(&self, node: u32, path: &Path, json: &Json) -> Result<Step, DataFault>
         ensures { GivesUnless DataFault.NoMemory (λ step. step) result (spec.item_step self.now.schema.now node (spec.before_last path.now) (view json.now)) }
     {

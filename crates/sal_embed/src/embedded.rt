@@ -214,7 +214,8 @@ fn bare(alloc: Global, it: &Prepared) -> Result<(), Status>
     no_order(alloc, &it.read.script)
 }
 
-fn no_clients(alloc: Global, script: &Script) -> Result<(), Status>
+/// Whether the script has no clients, as one that a broker is opened from.
+pub fn no_clients(alloc: Global, script: &Script) -> Result<(), Status>
     ensures { HasNone (codes "clients") (parts script.now).clients result }
 {
     if script.clients.items().is_empty() {
@@ -223,7 +224,8 @@ fn no_clients(alloc: Global, script: &Script) -> Result<(), Status>
     Err(bad(alloc, "clients"))
 }
 
-fn no_order(alloc: Global, script: &Script) -> Result<(), Status>
+/// Whether the script has no order, as one that a broker is opened from.
+pub fn no_order(alloc: Global, script: &Script) -> Result<(), Status>
     ensures { HasNone (codes "order") (parts script.now).order result }
 {
     if script.order.items().is_empty() {

@@ -42,7 +42,6 @@ fn is_asked(asked: &Step, step: Step) -> bool
 
 impl<'a> Reader<'a> {
     /// The step to the list entry at the path, by the keys in the JSON value. The path of the list is made for a fault alone.
-    #[tactic(auto, using(crate::proofs::AnyPath::keys_anywhere))]
     fn entry_step(&self, node: u32, path: &Path, json: &Json) -> Result<Step, DataFault>
         ensures { GivesUnless DataFault.NoMemory (λ step. step) result (spec.key_step self.now.schema.now node (spec.before_last path.now) (view json.now)) }
     {

@@ -36,17 +36,17 @@ value table n p q ms leaf = found (get_member (member_name table (Some n) leaf) 
 
 values : (table : SchemaTable) (n : ℕ) (p q : List Step) (ms : Members) (leafs : List ℕ) → Gives (key_values table n p ms leafs) (key_values table n q ms leafs)
 values table n p q ms [] x e = e
-values table n p q ms (leaf ∷ leafs) =
+values table n p q ms (leaf ∷ leafs) x e =
     chained (key_value table n p ms leaf) (key_value table n q ms leaf) (λ v. key_values table n p ms leafs >>= λ vs. Ok (v ∷ vs)) (λ v. key_values table n q ms leafs >>= λ vs. Ok (v ∷ vs)) (value table n p q ms leaf)
-    (λ v. chained (key_values table n p ms leafs) (key_values table n q ms leafs) (λ vs. Ok (v ∷ vs)) (λ vs. Ok (v ∷ vs)) (values table n p q ms leafs) (λ vs x e. e))
+    (λ v. chained (key_values table n p ms leafs) (key_values table n q ms leafs) (λ vs. Ok (v ∷ vs)) (λ vs. Ok (v ∷ vs)) (values table n p q ms leafs) (λ vs y g. g)) x e
 
 pub keys_anywhere : (table : SchemaTable) (n : ℕ) (p q : List Step) (json : Data) (x : Step) → key_step table n p json ≡ Ok x → key_step table n q json ≡ Ok x
 keys_anywhere table n p q json = found (as_object json)
   where
     found : (o : Option Members) → Gives (option_map_or (λ ms. key_values table n p ms (keys_of table n) >>= λ vs. Ok (Key vs)) o (Err (WrongShape p))) (option_map_or (λ ms. key_values table n q ms (keys_of table n) >>= λ vs. Ok (Key vs)) o (Err (WrongShape q)))
     found None x e = cc
-    found (Some ms) =
-        chained (key_values table n p ms (keys_of table n)) (key_values table n q ms (keys_of table n)) (λ vs. Ok (Key vs)) (λ vs. Ok (Key vs)) (values table n p q ms (keys_of table n)) (λ vs x e. e)
+    found (Some ms) x e =
+        chained (key_values table n p ms (keys_of table n)) (key_values table n q ms (keys_of table n)) (λ vs. Ok (Key vs)) (λ vs. Ok (Key vs)) (values table n p q ms (keys_of table n)) (λ vs y g. g) x e
 
 pub items_anywhere : (table : SchemaTable) (n : ℕ) (p q : List Step) (json : Data) (x : Step) → item_step table n p json ≡ Ok x → item_step table n q json ≡ Ok x
 items_anywhere table n p q json =

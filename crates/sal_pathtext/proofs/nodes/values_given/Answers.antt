@@ -32,4 +32,4 @@ pub returns : goal.returns
 returns c =
     let l = c.loop-key in
     let past = values_past c.args.given.now c.args.keys.now l.key-index (omega (arith, c.loop-key-test.false)) in
-    sym (l.invariant ∙ ap (in_front l.values.items) past ∙ ap Some (append-nil l.values.items ∙ sym c.from_items.ensures))
+    sym (l.invariant ∙ ap (in_front l.values.items) past ∙ ap Some (append-nil l.values.items ∙ sym c.from_items.ensures ∙ sym c.in_ok-new.ensures))

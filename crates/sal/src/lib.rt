@@ -1,4 +1,4 @@
-//! All names that an application of the broker needs, in one crate: it depends on `sal` and on no other crate of this repository.
+//! All names that an application of the broker needs, in one crate. Entity ownership, feeds, followers and epochs are crates beside it.
 //!
 //! | item | what it is |
 //! |---|---|

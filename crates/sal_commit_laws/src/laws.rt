@@ -28,8 +28,8 @@ pub fn stamps_never_come_again()
     ensures new { LaterStampsAreNew }
 {}
 
-/// No committed tree has the stamp of a transaction. The nodes that a transaction touched have its stamp in its view, and every other node
-/// is that of its base.
+/// After an opening with receipt 0 no committed tree has the stamp of a transaction. The nodes that a transaction touched have its stamp in its
+/// view, and every other node is that of its base.
 pub fn views_have_stamps_of_their_own()
     ensures own { ViewStampsAreNoCommits }
     ensures touched { ViewsDifferWhereTouched }

@@ -1,4 +1,4 @@
-//! Epochs: a hub whose log is full passes its newest trees to the next one.
+//! Epochs: shortly before its log is full, a hub passes its newest trees to the next one.
 //!
 //! | item | what it is |
 //! |---|---|

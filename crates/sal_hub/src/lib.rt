@@ -25,8 +25,8 @@
 //! service removes its entry.
 //!
 //! A decided submission is dropped, with its base, its view (if it was made) and the look-ups of its operations: its entry in the
-//! log, its outcome and, if it is done, its commit stay. A settle for which memory runs out drops nothing. The operations are copied once,
-//! for the entry, and the commit shares that list.
+//! log, its outcome and, if it is done, its commit stay. A settle for which memory runs out drops nothing. The entry, the submission and
+//! the commit share the transaction's list of operations; only for a refused submit is it copied.
 //!
 //! Invariants relate the hub's state to the log. By `specs/Current` the pending submissions, the outcomes, the flags of spent
 //! transactions and of live domains are those of the log's replies; each submission is lawful over its transaction's base
@@ -72,7 +72,7 @@
 //! | `unlisten` | the same search |
 //! | `mount`, `unmount`, `mount_at` | the same, and some searches among mounts (`sal_mount`); a mount copies its path twice |
 //! | `upgrade` | one search among the clients, the plan of the version's rules, and the check of both newest trees of domain 0 (`sal_check`) |
-//! | `submit` | the same, and a copy of the operations for the log, which the commit shares |
+//! | `submit` | one search among the clients; if it is refused, a copy of the operations for the log |
 //! | `settle`, `pump` | the decision of each pending submission up to the receipt, or of the first (`sal_commit`), and one number for each domain |
 //! | `provide`, `withdraw` | one search among the clients, two among the registrations, and a copy of the context for the log |
 //! | `invoke` | the same, one more search among the queues, and a copy of the input for the log |

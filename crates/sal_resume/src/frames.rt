@@ -52,8 +52,8 @@ pub fn frames_since(alloc: Global, hub: &Hub, domain: u32, from: u64) -> Result<
 
 /// The frames of the domain's commits from a commit on, numbered from the number of the next frame on.
 ///
-/// They continue a stream over epochs: after the frames of one epoch come those of the next hub from its commit 1 on, with the next numbers. A
-/// follower of the stream does not notice (`laws::streams_go_on_over_epochs`).
+/// They continue a stream over epochs: after the frames of one epoch come those of the next hub from its commit 1 on, with the next numbers. While
+/// the schema's version stays, a follower of the stream does not notice (`laws::streams_go_on_over_epochs`).
 pub fn frames_on(
     alloc: Global,
     hub: &Hub,

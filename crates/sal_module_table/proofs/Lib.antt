@@ -4,6 +4,7 @@ pub mod FromLast
 pub mod Keys
 pub mod Infos
 pub mod Climbs
+pub mod Marking
 pub mod Derivations
 pub mod Seen
 pub mod SmallBases

@@ -7,6 +7,7 @@ pub mod Table
 pub mod Orders
 pub mod Filled
 pub mod Identities
+pub mod Marks
 pub mod Types
 pub mod Leafrefs
 pub mod Typed

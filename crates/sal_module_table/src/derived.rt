@@ -1,35 +1,19 @@
 //! The identities from which identities are derived.
 ghost use Rattle.std.specs.Prelude.{◌≡◌, ◌∷◌, ◌<◌, ◌^◌, ℕ, [], All, fold, length, IfOk, slice_index_or, if◌then◌else◌, ◌==◌};
-ghost use Rattle.std.specs.List.{list_any};
 ghost use Rattle.sal_grouping.specs.Indexes.{lists};
 ghost use Rattle.sal_module_table.specs.Orders.{rows, IsOrdered};
 ghost use Rattle.sal_module_table.specs.Identities as spec;
 
+use crate::gathered::Gathered;
 use crate::order::{Order, order_of, out_of, stands_at};
 use sal_types::{NoMemory, append};
 use std::alloc::Global;
 
-fn is_among(numbers: &[u32], k: u32) -> bool
-    ensures { result ≡ list_any (λ j. j == k) numbers.now }
-{
-    numbers.iter().any(|j| *j == k)
-}
-
-/// Appends the number, if the list does not have it.
-fn add(out: &mut Vec<u32>, k: u32) -> Result<(), NoMemory>
-    ensures { IfOk result (λ _. out.new.items ≡ spec.with_number out.old.items k) }
-{
-    if !is_among(out, k) {
-        append(out, k)?;
-    }
-    Ok(())
-}
-
-fn add_all(out: &mut Vec<u32>, numbers: &[u32]) -> Result<(), NoMemory>
-    ensures { IfOk result (λ _. out.new.items ≡ fold spec.with_number out.old.items numbers.now) }
+fn add_all(gathered: &mut Gathered, numbers: &[u32]) -> Result<(), NoMemory>
+    ensures { IfOk result (λ _. gathered.new ≡ fold spec.with_number gathered.old numbers.now) }
 {
     for k in numbers {
-        add(out, *k)?;
+        gathered.add(*k)?;
     }
     Ok(())
 }
@@ -41,73 +25,44 @@ fn row_at(all: &[Vec<u32>], k: usize) -> &[u32]
 }
 
 /// Adds a base, and the identities from which it is derived.
-fn add_with(out: &mut Vec<u32>, base: usize, above: &[u32]) -> Result<(), NoMemory>
+fn add_with(gathered: &mut Gathered, base: usize, above: &[u32]) -> Result<(), NoMemory>
     requires { base < 2 ^ 32 }
-    ensures { IfOk result (λ _. out.new.items ≡ fold spec.with_number out.old.items (base ∷ above.now)) }
+    ensures { IfOk result (λ _. gathered.new ≡ fold spec.with_number gathered.old (base ∷ above.now)) }
 {
-    add(out, base as u32)?;
-    add_all(out, above)
+    gathered.add(base as u32)?;
+    add_all(gathered, above)
 }
 
-/// Bases, each with the identities from which it is derived.
-fn joined(alloc: Global, all: &[Vec<u32>], bases: &[usize]) -> Result<Vec<u32>, NoMemory>
-    requires { All (λ b. b < 2 ^ 32) bases.now }
-    ensures { IfOk result (λ row. row.items ≡ spec.joined (λ b. slice_index_or (rows all.now) b []) bases.now) }
+/// Adds bases, each with the identities from which it is derived.
+fn join(gathered: &mut Gathered, all: &[Vec<u32>], bases: &[usize]) -> Result<(), NoMemory>
+    requires none { gathered.old ≡ [] }
+    requires small { All (λ b. b < 2 ^ 32) bases.now }
+    ensures { IfOk result (λ _. gathered.new ≡ spec.joined (λ b. slice_index_or (rows all.now) b []) bases.now) }
 {
-    let mut out = Vec::new(alloc);
     for base in bases {
-        add_with(&mut out, *base, row_at(all, *base))?;
-    }
-    Ok(out)
-}
-
-/// Computes the list of this number from those before it.
-// Adds the number, unless it is marked by this turn.
-fn add_marked(out: &mut Vec<u32>, marks: &mut Vec<u32>, turn: u32, k: u32) -> Result<(), NoMemory> {
-    let at = k as usize;
-    if at >= marks.len() {
-        return add(out, k);
-    }
-    if marks[at] != turn {
-        marks[at] = turn;
-        append(out, k)?;
+        add_with(gathered, *base, row_at(all, *base))?;
     }
     Ok(())
 }
 
-fn joined_by(
-    alloc: Global,
-    all: &[Vec<u32>],
-    bases: &[usize],
-    marks: &mut Vec<u32>,
-    turn: u32,
-) -> Result<Vec<u32>, NoMemory> {
-    let mut out = Vec::new(alloc);
-    for base in bases {
-        add_marked(&mut out, marks, turn, *base as u32)?;
-        for k in row_at(all, *base) {
-            add_marked(&mut out, marks, turn, *k)?;
-        }
-    }
-    Ok(out)
-}
-
+/// Computes the list of this number from those before it.
 fn place_row(
     all: &mut Vec<Vec<u32>>,
-    marks: &mut Vec<u32>,
-    alloc: Global,
+    gathered: &mut Gathered,
     edges: &[Vec<usize>],
     i: usize,
 ) -> Result<(), NoMemory>
+    requires none { gathered.old ≡ [] }
     requires count { length (rows all.old.items) ≡ length (lists edges.now) }
     requires small { spec.AreSmall (lists edges.now) }
+    ensures none { IfOk result (λ _. gathered.new ≡ []) }
     ensures count { IfOk result (λ _. length (rows all.new.items) ≡ length (rows all.old.items)) }
     ensures each { IfOk result (λ _. (k : ℕ) → k < length (lists edges.now) → slice_index_or (rows all.new.items) k [] ≡
         (if i == k then spec.joined (λ b. slice_index_or (rows all.old.items) b []) (slice_index_or (lists edges.now) k []) else slice_index_or (rows all.old.items) k [])) }
 {
     if i < edges.len() {
-        let row = joined_by(alloc, all, out_of(edges, i), marks, i as u32 + 1)?;
-        all[i] = row;
+        join(gathered, all, out_of(edges, i))?;
+        all[i] = gathered.take();
     }
     Ok(())
 }
@@ -130,13 +85,10 @@ fn derived_by(alloc: Global, edges: &[Vec<usize>], order: &Order) -> Result<Vec<
     ensures each { IfOk result (λ all. (k : ℕ) → k < length (lists edges.now) → slice_index_or (rows all.items) k [] ≡ spec.derived_from (lists edges.now) k) }
 {
     let mut all = empty_rows(alloc, edges.len())?;
-    let mut marks = Vec::with_capacity(alloc, edges.len())?;
-    for _ in 0..edges.len() {
-        append(&mut marks, 0)?;
-    }
+    let mut gathered = Gathered::new(alloc, edges.len())?;
     for r in 0..order.order.len() {
         let i = stands_at(&order.order, r, edges.len());
-        place_row(&mut all, &mut marks, alloc, edges, i)?;
+        place_row(&mut all, &mut gathered, edges, i)?;
     }
     Ok(all)
 }
@@ -151,15 +103,15 @@ fn derived_in(
     requires { spec.AreSmall (lists edges.now) }
     ensures { IfOk result (λ row. row.items ≡ spec.derived steps (lists edges.now) i) }
 {
-    let mut out = Vec::new(alloc);
     if steps == 0 {
-        return Ok(out);
+        return Ok(Vec::new(alloc));
     }
+    let mut gathered = Gathered::new(alloc, 0)?;
     for base in out_of(edges, i) {
         let above = derived_in(alloc, edges, steps - 1, *base)?;
-        add_with(&mut out, *base, &above)?;
+        add_with(&mut gathered, *base, &above)?;
     }
-    Ok(out)
+    Ok(gathered.take())
 }
 
 /// The same for each identity, for edges that may have cycles.

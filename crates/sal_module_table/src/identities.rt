@@ -261,8 +261,8 @@ pub(crate) fn identity_fault(
 
 /// The identities of the table, in the order of modules and texts, each with all identities from which it is derived.
 ///
-/// Each is computed once, after its bases, in the square of the number of identities from which it is derived. If a path
-/// leads into a cycle, which `identity_fault` finds, each path is followed by itself.
+/// Each is computed once, after its bases, in time linear in their lists. If a path leads into a cycle, which `identity_fault`
+/// finds, each path is followed by itself.
 pub(crate) fn identity_infos(
     alloc: Global,
     modules: &Modules,

@@ -22,7 +22,8 @@
 //! ```
 //!
 //! Cost: linear in the statements and the nodes, times the logarithm of the nodes, if no type depends on many others. Each type
-//! statement is evaluated with all that it depends on; an augment's target is looked for along the tree, and augments in rounds.
+//! statement is evaluated with all that it depends on, and each identity lists all from which it is derived; an augment's target is
+//! looked for along the tree, and augments in rounds.
 //! Recursion is no deeper than the blocks, unless identities or leafrefs have a cycle.
 //! `next_version` costs what `table_of_modules` costs for all statements, a second tree of nodes, and a copy of both tables.
 #![tactic(auto)]
@@ -31,6 +32,7 @@ mod child;
 mod circles;
 mod derived;
 mod fill;
+mod gathered;
 mod identities;
 mod info;
 mod inherited;

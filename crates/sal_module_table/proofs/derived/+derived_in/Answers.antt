@@ -9,7 +9,7 @@ use Rattle.sal_module_table.proofs.derived.+derived_in.Goals as goal
 pub returns-then-steps-eq0 : goal.returns-then-steps-eq0
 returns-then-steps-eq0 t c =
     let edges = lists c.args.edges.now in
-    c.new-out.ensures.items ∙ sym (ap (λ n. derived n edges c.args.i) c.if-steps-eq0.true ∙ derived-zero edges c.args.i)
+    c.new.ensures.items ∙ sym (ap (λ n. derived n edges c.args.i) c.if-steps-eq0.true ∙ derived-zero edges c.args.i)
 
 pub returns : goal.returns
 returns t c =
@@ -18,7 +18,7 @@ returns t c =
     let bases = c.out_of-base-items.result.now in
     let some : 0 < a.steps = omega (arith, c.if-steps-eq0.false) in
     let whole : take c.loop-base.base-index bases ≡ bases = take_all c.loop-base.base-index bases c.loop-base-test.false in
-    c.loop-base.invariant ∙ ap (joined (derived (a.steps - 1) edges)) (whole ∙ c.out_of-base-items.ensures) ∙ sym (derived-some edges a.steps a.i some)
+    c.take.ensures.row ∙ c.loop-base.invariant ∙ ap (joined (derived (a.steps - 1) edges)) (whole ∙ c.out_of-base-items.ensures) ∙ sym (derived-some edges a.steps a.i some)
 
 pub add_with-requires : goal.add_with-requires
 add_with-requires t c =

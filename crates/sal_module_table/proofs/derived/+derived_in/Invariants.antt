@@ -5,7 +5,7 @@ use Rattle.sal_module_table.specs.Identities.{joined, derived}
 use Rattle.sal_module_table.proofs.derived.+derived_in.Given as goal
 
 abbrev pub invariant-loop-base : goal.invariant-loop-base
-invariant-loop-base l = l.out.items ≡ joined (derived (l.steps - 1) (lists l.edges)) (take l.base-index l.base-items)
+invariant-loop-base l = l.gathered ≡ joined (derived (l.steps - 1) (lists l.edges)) (take l.base-index l.base-items)
 
 abbrev pub decreases-derived_in : goal.decreases-derived_in
 decreases-derived_in l = l.steps

@@ -4,4 +4,4 @@ use Rattle.sal_module_table.specs.Identities.{with_number}
 use Rattle.sal_module_table.proofs.derived.add_all.Given as goal
 
 abbrev pub invariant-loop-k : goal.invariant-loop-k
-invariant-loop-k l = l.out.items ≡ fold with_number l.initial.out.items (take l.k-index l.numbers)
+invariant-loop-k l = l.gathered ≡ fold with_number l.initial.gathered (take l.k-index l.numbers)

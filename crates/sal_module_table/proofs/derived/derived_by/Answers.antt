@@ -10,6 +10,7 @@ loop-r-preserved c =
     let edges = lists c.args.edges.now in
     let order = c.args.order.now in
     record {
+      none = c.in_ok-place_row.ensures.none;
       count = c.in_ok-place_row.ensures.count ∙ c.loop-r.invariant.count;
       known = ranked-more edges order.ranks.items order.order.items c.requires.order (rows c.loop-r.all.items) (rows c.place_row.new.all.items) c.loop-r.r c.stands_at-i.result (rw c.deref.ensures.value at c.stands_at-i.ensures ∙ ap (λ n. get_or order.order.items c.loop-r.r n) (sym (lists-length c.args.edges.now))) c.loop-r.invariant.known c.in_ok-place_row.ensures.each;
     }

@@ -8,6 +8,7 @@ use Rattle.sal_module_table.proofs.derived.derived_by.Given as goal
 abbrev pub invariant-loop-r : goal.invariant-loop-r
 invariant-loop-r l =
     record {
+      none : l.gathered ≡ [];
       count : length (rows l.all.items) ≡ length (lists l.edges);
       known : (j : ℕ) → j < length (lists l.edges) → rank_of l.order.ranks.items j < l.r → get_or (rows l.all.items) j [] ≡ derived_from (lists l.edges) j;
     }

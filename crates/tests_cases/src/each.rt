@@ -2,6 +2,7 @@
 use crate::case::Case;
 use crate::gate::CountingGate;
 use crate::input;
+use crate::meetings::Meetings;
 use crate::play::{sink_with, words_of};
 use crate::tally::Tally;
 use sal_command::top::mdsal;
@@ -142,7 +143,7 @@ fn status_of<R: Threads + Wait + Sync>(
     source: &mut MemSource,
     sink: &mut MemSink,
 ) -> u8 {
-    let gate = CountingGate::new();
     let alloc = trial.case.alloc();
+    let gate = CountingGate::new(Meetings::none(alloc));
     mdsal(trial.threads, alloc, trial.words, source, sink, &gate).number()
 }

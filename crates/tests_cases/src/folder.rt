@@ -112,7 +112,7 @@ fn is_stray(list: &str, file: &str) -> bool {
 fn is_kind(kind: &str) -> bool {
     matches!(
         kind,
-        "json" | "yang" | "parts" | "txt" | "status" | "words" | "faults"
+        "json" | "yang" | "parts" | "txt" | "status" | "words" | "faults" | "gate"
     )
 }
 

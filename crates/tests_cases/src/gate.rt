@@ -1,4 +1,5 @@
-//! A gate that counts its passes, to be compared with the steps of a report.
+//! A gate that counts its passes, to be compared with the steps of a report, and at which clients may wait for each other.
+use crate::meetings::Meetings;
 use sal_io::Gate;
 use std::sync::atomic::{AtomicU64, Ordering};
 
@@ -33,19 +34,21 @@ fn place(client: u32, step: u32) -> u64 {
     (u64::from(client) << 32) | u64::from(step)
 }
 
-/// A gate that lets every client pass at once, and counts.
+/// A gate that counts, and lets every client pass at once but for its meetings.
 #[derive(Drop)]
 pub struct CountingGate {
     count: AtomicU64,
     places: AtomicU64,
+    meetings: Meetings,
 }
 
 impl CountingGate {
-    /// A gate that no client has passed.
-    pub fn new() -> Self {
+    /// A gate with these meetings that no client has passed.
+    pub fn new(meetings: Meetings) -> Self {
         CountingGate {
             count: AtomicU64::new(0),
             places: AtomicU64::new(0),
+            meetings,
         }
     }
 
@@ -56,12 +59,18 @@ impl CountingGate {
             places: self.places.load(Ordering::SeqCst),
         }
     }
+
+    /// How many clients waited there in vain.
+    pub fn missed(&self) -> u64 {
+        self.meetings.missed()
+    }
 }
 
 impl Gate for CountingGate {
     fn pass(&self, client: u32, step: u32) {
         self.count.fetch_add(1, Ordering::SeqCst);
         self.places.fetch_add(place(client, step), Ordering::SeqCst);
+        self.meetings.pass(client, step);
     }
 }
 

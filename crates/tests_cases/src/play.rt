@@ -2,6 +2,7 @@
 use crate::case::Case;
 use crate::gate::{self, CountingGate, Steps};
 use crate::input;
+use crate::meetings::Meetings;
 use sal_command::top::mdsal;
 use sal_io::{MemSink, MemSource};
 use sal_prepare::status::Status;
@@ -18,11 +19,12 @@ const ROOM: u64 = 1048576;
 // The default end of a case.
 const DONE: &str = "0 ";
 
-/// How the command ended, as in a file `NAME.status`, before which steps the gate was passed, and the output.
+/// How the command ended, as in a file `NAME.status`, before which steps the gate was passed, how many clients waited there in vain, and the output.
 #[derive(Drop)]
 struct Outcome {
     ended: String,
     passes: Steps,
+    missed: u64,
     sink: MemSink,
 }
 
@@ -64,24 +66,23 @@ fn played_with<R: Threads + Wait + Sync>(
     case: Case<'_>,
     words: &[Str],
 ) -> io::Result<Outcome> {
-    let mut source = source_of(case)?;
-    played_from(threads, case, words, &mut source)
+    let gate = gate_of(case)?;
+    played_at(threads, case, words, &gate)
 }
 
-fn played_from<R: Threads + Wait + Sync>(
+fn played_at<R: Threads + Wait + Sync>(
     threads: &R,
     case: Case<'_>,
     words: &[Str],
-    source: &mut MemSource,
+    gate: &CountingGate,
 ) -> io::Result<Outcome> {
-    let mut sink = sink_of(case)?;
-    let gate = CountingGate::new();
-    let status = mdsal(threads, case.alloc(), words, source, &mut sink, &gate);
-    let passes = gate.passes();
+    let (mut source, mut sink) = ends_of(case)?;
+    let status = mdsal(threads, case.alloc(), words, &mut source, &mut sink, gate);
     let ended = ended(case.alloc(), &status)?;
     Ok(Outcome {
         ended,
-        passes,
+        passes: gate.passes(),
+        missed: gate.missed(),
         sink,
     })
 }
@@ -126,6 +127,19 @@ fn push_lines(alloc: Global, lines: &mut Vec<Str>, text: &str) -> io::Result<()>
         lines.push(Str::from_string(String::from_str(alloc, line)?))?;
     }
     Ok(())
+}
+
+// The gate, with the meetings of the case.
+fn gate_of(case: Case<'_>) -> io::Result<CountingGate> {
+    let text = case.text_or("gate", "")?;
+    let meetings = Meetings::of_lines(case.alloc(), text.as_str())?;
+    Ok(CountingGate::new(meetings))
+}
+
+fn ends_of(case: Case<'_>) -> io::Result<(MemSource, MemSink)> {
+    let source = source_of(case)?;
+    let sink = sink_of(case)?;
+    Ok((source, sink))
 }
 
 fn source_of(case: Case<'_>) -> io::Result<MemSource> {
@@ -195,11 +209,20 @@ fn passes_difference(case: Case<'_>, played: &Outcome) -> io::Result<String> {
         Err(_) => gate::answered(""),
     };
     if played.passes == answered {
-        return Ok(String::new(case.alloc()));
+        return missed_difference(case, played.missed);
     }
     let passes = played.passes.count;
     let steps = answered.count;
     Ok(format!(in case.alloc(); "{passes} passes of the gate for {steps} steps, or before others")?)
+}
+
+// Whether each client met those that it waited for.
+fn missed_difference(case: Case<'_>, missed: u64) -> io::Result<String> {
+    if missed == 0 {
+        Ok(String::new(case.alloc()))
+    } else {
+        Ok(format!(in case.alloc(); "{missed} clients waited at the gate in vain")?)
+    }
 }
 
 // The first line that differs.

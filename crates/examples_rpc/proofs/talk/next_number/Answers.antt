@@ -1,6 +1,0 @@
--- The one device has one version.
-use Rattle.sal.proofs.OneVersion.{alone_version}
-use Rattle.examples_rpc.proofs.talk.next_number.Goals as goal
-
-pub open-requires-clause-versions : goal.open-requires-clause-versions
-open-requires-clause-versions g c = alone_version _ _ _ c.in_ok-devices.ensures.items c.empty_device.ensures.versions

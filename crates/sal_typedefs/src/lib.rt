@@ -50,6 +50,7 @@ mod judgement;
 mod judging;
 mod layer;
 mod leafrefs;
+mod listing;
 mod meaning;
 mod merging;
 mod name;

@@ -20,7 +20,7 @@ AreValues entries numbers = (k : ℤ) → contains int_cmp numbers k ≡ has_num
 
 -- look-ups of the entries, and the number after the greatest, which is not great
 pub record IsListing (l : Listing) : Type 0 where
-  pub names : AreNames l.chosen.entries.items l.chosen.names
-  pub values : AreValues l.chosen.entries.items l.numbers
-  pub next : l.next ≡ next l.chosen.entries.items
-  pub small : l.next ≤ℤ bound (length l.chosen.entries.items)
+  pub names : AreNames l.named.entries.items l.named.names
+  pub values : AreValues l.named.entries.items l.numbers
+  pub next : l.next ≡ next l.named.entries.items
+  pub small : l.next ≤ℤ bound (length l.named.entries.items)

@@ -9,7 +9,7 @@ ghost use Rattle.sal_typedefs.specs.Entries as spec;
 
 use crate::entry::{Entry, Numbering};
 use crate::judging::at;
-use crate::listing::{Choices, Chosen, Listing};
+use crate::listing::{Choices, Listing, Named};
 use crate::numbering::{chosen_entry, own_entry};
 use sal_module::{Cause, Found, better, is_named};
 use sal_stmt::Stmt;
@@ -50,8 +50,8 @@ impl Naming {
         stmt: &Stmt,
     ) -> Result<Option<Found>, NoMemory>
         requires { IsListing listing.old }
-        ensures entries { IfOk result (λ _. listing.new.chosen.entries.items ≡ listing.old.chosen.entries.items ++ spec.entry_of self.numbering None listing.old.chosen.entries.items stmt.now ∷ []) }
-        ensures fault { IfOk result (λ found. found ≡ least best (if spec.is_faulty self.numbering None listing.old.chosen.entries.items stmt.now then at_stmt BadRestriction self.number stmt.now else [])) }
+        ensures entries { IfOk result (λ _. listing.new.named.entries.items ≡ listing.old.named.entries.items ++ spec.entry_of self.numbering None listing.old.named.entries.items stmt.now ∷ []) }
+        ensures fault { IfOk result (λ found. found ≡ least best (if spec.is_faulty self.numbering None listing.old.named.entries.items stmt.now then at_stmt BadRestriction self.number stmt.now else [])) }
         ensures listing { IfOk result (λ _. IsListing listing.new) }
     {
         let (bad, entry) = own_entry(self.alloc, self.numbering, listing, stmt)?;
@@ -76,7 +76,7 @@ impl Naming {
             }
             best = self.with_own(best, &mut listing, sub)?;
         }
-        Ok((best, listing.chosen.entries))
+        Ok((best, listing.named.entries))
     }
 
     /// Appends a name that the statement chooses from these, with the least fault.
@@ -84,7 +84,7 @@ impl Naming {
         self,
         best: Option<Found>,
         from: &Choices,
-        chosen: &mut Chosen,
+        chosen: &mut Named,
         stmt: &Stmt,
     ) -> Result<Option<Found>, NoMemory>
         requires { AreNames chosen.old.entries.items chosen.old.names }
@@ -121,7 +121,7 @@ impl Naming {
         ensures fault { IfOk result (λ p. p.0 ≡ least best (spec.entry_faults self.numbering (Some from.now) self.number [] (statements.all_named (spec.item_of self.numbering) stmt.now))) }
         ensures entries { IfOk result (λ p. p.1.items ≡ spec.entries_of self.numbering (Some from.now) [] (statements.all_named (spec.item_of self.numbering) stmt.now)) }
     {
-        let mut chosen = Chosen::new(self.alloc);
+        let mut chosen = Named::new(self.alloc);
         let mut best = best;
         for sub in stmt.subs.items() {
             if !is_named(self.numbering.item(), sub) {

@@ -39,10 +39,10 @@ pub(crate) struct Choices<'e> {
 
 impl<'e> Model for Choices<'e> {
     ghost use Rattle.std.specs.Prelude.{List};
-    ghost use Rattle.sal_typedefs.specs.declared.entry.Entry.{Entry as Named};
+    ghost use Rattle.sal_typedefs.specs.declared.entry.Entry.{Entry as One};
     ghost use Rattle.sal_typedefs.specs.Listings.{AreNames};
 
-    ghost Value = { List Named };
+    ghost Value = { List One };
 
     ghost view = { λ a. a.entries.now };
 
@@ -69,19 +69,19 @@ impl<'e> Choices<'e> {
     }
 }
 
-/// Chosen entries, and the index of the first one with each name.
+/// Named entries, and the index of the first one with each name.
 #[derive(Drop)]
-pub(crate) struct Chosen {
+pub(crate) struct Named {
     pub(crate) entries: Vec<Entry>,
     pub(crate) names: Numbers,
 }
 
-impl Chosen {
-    pub(crate) fn new(alloc: Global) -> Chosen
+impl Named {
+    pub(crate) fn new(alloc: Global) -> Named
         ensures none { result.entries.items ≡ [] }
         ensures names { spec.AreNames result.entries.items result.names }
     {
-        Chosen {
+        Named {
             entries: Vec::new(alloc),
             names: BTreeMap::new(alloc),
         }
@@ -98,7 +98,7 @@ impl Chosen {
     /// Appends an entry.
     pub(crate) fn push(&mut self, alloc: Global, entry: Entry) -> Result<(), NoMemory>
         requires { spec.AreNames self.old.entries.items self.old.names }
-        ensures entries { IfOk result (λ _. self.new.entries.items ≡ self.old.entries.items ++ entry.entry ∷ []) }
+        ensures entries { IfOk result (λ _. self.new.entries.items ≡ self.old.entries.items ++ entry ∷ []) }
         ensures names { IfOk result (λ _. spec.AreNames self.new.entries.items self.new.names) }
     {
         define(
@@ -107,25 +107,26 @@ impl Chosen {
             entry.name.as_str(),
             self.entries.len(),
         )?;
-        append(&mut self.entries, entry)
+        append(&mut self.entries, entry)?;
+        Ok(())
     }
 }
 
 /// Entries that a statement defines, with look-ups of their names and numbers, and the next number.
 #[derive(Drop)]
 pub(crate) struct Listing {
-    pub(crate) chosen: Chosen,
+    pub(crate) named: Named,
     pub(crate) numbers: BTreeSet<i128>,
     pub(crate) next: i128,
 }
 
 impl Listing {
     pub(crate) fn new(alloc: Global) -> Listing
-        ensures none { result.chosen.entries.items ≡ [] }
+        ensures none { result.named.entries.items ≡ [] }
         ensures listing { spec.IsListing result }
     {
         Listing {
-            chosen: Chosen::new(alloc),
+            named: Named::new(alloc),
             numbers: BTreeSet::new(alloc),
             next: 0,
         }
@@ -134,7 +135,7 @@ impl Listing {
     /// Whether an entry has this number.
     pub(crate) fn has_number(&self, number: i128) -> bool
         requires { spec.IsListing self.now }
-        ensures { result ≡ entries_spec.has_number number self.now.chosen.entries.items }
+        ensures { result ≡ entries_spec.has_number number self.now.named.entries.items }
     {
         self.numbers.contains(&number)
     }
@@ -142,13 +143,13 @@ impl Listing {
     /// Appends an entry.
     pub(crate) fn push(&mut self, alloc: Global, entry: Entry) -> Result<(), NoMemory>
         requires listing { spec.IsListing self.old }
-        requires small { entry.number ≤ℤ entries_spec.bound (length self.old.chosen.entries.items) }
-        ensures entries { IfOk result (λ _. self.new.chosen.entries.items ≡ self.old.chosen.entries.items ++ entry.entry ∷ []) }
+        requires small { entry.number ≤ℤ entries_spec.bound (length self.old.named.entries.items) }
+        ensures entries { IfOk result (λ _. self.new.named.entries.items ≡ self.old.named.entries.items ++ entry ∷ []) }
         ensures listing { IfOk result (λ _. spec.IsListing self.new) }
     {
-        let next = next_after(self.chosen.entries.as_slice(), self.next, &entry);
+        let next = next_after(self.named.entries.as_slice(), self.next, &entry);
         self.numbers.insert(entry.number)?;
-        self.chosen.push(alloc, entry)?;
+        self.named.push(alloc, entry)?;
         self.next = next;
         Ok(())
     }

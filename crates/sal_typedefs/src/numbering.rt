@@ -8,7 +8,7 @@ ghost use Rattle.sal_typedefs.specs.Entries as spec;
 
 use crate::entry::{Entry, Numbering};
 use crate::judging::small_number;
-use crate::listing::{Choices, Chosen, Listing};
+use crate::listing::{Choices, Listing, Named};
 use sal_module::{Form, Keyword, argument_of, first_named, has_form, is_whole};
 use sal_stmt::Stmt;
 use sal_types::{Duplicate, NoMemory, Str};
@@ -169,14 +169,14 @@ pub(crate) fn own_entry(
     stmt: &Stmt,
 ) -> Result<(bool, Entry), NoMemory>
     requires { IsListing before.now }
-    ensures bad { IfOk result (λ p. p.0 ≡ spec.is_bad n before.now.chosen.entries.items stmt.now) }
-    ensures entry { IfOk result (λ p. p.1 ≡ spec.entry_of n None before.now.chosen.entries.items stmt.now) }
-    ensures small { IfOk result (λ p. p.1.number ≤ℤ spec.bound (length before.now.chosen.entries.items)) }
+    ensures bad { IfOk result (λ p. p.0 ≡ spec.is_bad n before.now.named.entries.items stmt.now) }
+    ensures entry { IfOk result (λ p. p.1 ≡ spec.entry_of n None before.now.named.entries.items stmt.now) }
+    ensures small { IfOk result (λ p. p.1.number ≤ℤ spec.bound (length before.now.named.entries.items)) }
 {
     let name = argument_of(stmt);
     let text = n.text_of(stmt);
     let number = n.number_or(text, before.next);
-    let bad = before.chosen.has_name(name)
+    let bad = before.named.has_name(name)
         || before.has_number(number)
         || number > n.greatest()
         || n.is_malformed(text);
@@ -209,7 +209,7 @@ pub(crate) fn chosen_entry(
     alloc: Global,
     n: Numbering,
     from: &Choices,
-    before: &Chosen,
+    before: &Named,
     stmt: &Stmt,
 ) -> Result<(bool, Entry), NoMemory>
     requires { AreNames before.now.entries.items before.now.names }

@@ -5,6 +5,7 @@ pub mod LayerLists
 pub mod MeaningLists
 pub mod LeastLists
 pub mod EntryLists
+pub mod Listings
 pub mod WalkLists
 pub mod IdentityLists
 pub mod SpotLists

@@ -7,6 +7,7 @@ pub mod Walks
 pub mod Spots
 pub mod Leafrefs
 pub mod Entries
+pub mod Listings
 pub mod Patterns
 pub mod Restrictions
 pub mod Types

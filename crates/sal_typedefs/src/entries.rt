@@ -1,17 +1,19 @@
 //! All names of an enumeration or of bits (RFC 7950 sections 9.6 and 9.7).
-ghost use Rattle.std.specs.Prelude.{◌≡◌, ◌≤ℤ◌, ◌+◌, ◌∷◌, ◌++◌, [], length, Some, None, IfOk, if◌then◌else◌};
+ghost use Rattle.std.specs.Prelude.{◌≡◌, ◌∷◌, ◌++◌, [], Some, None, IfOk, if◌then◌else◌};
 ghost use Rattle.sal_module.specs.declared.fault.Cause.TheVariants.{BadRestriction};
 ghost use Rattle.sal_module.specs.Faults.{least};
 ghost use Rattle.sal_module.specs.Profile.{at_stmt};
 ghost use Rattle.sal_module.specs.Statements as statements;
+ghost use Rattle.sal_typedefs.specs.Listings.{AreNames, IsListing};
 ghost use Rattle.sal_typedefs.specs.Entries as spec;
 
 use crate::entry::{Entry, Numbering};
 use crate::judging::at;
-use crate::numbering::{chosen_entry, next_after, own_entry};
+use crate::listing::{Choices, Listing, Named};
+use crate::numbering::{chosen_entry, own_entry};
 use sal_module::{Cause, Found, better, is_named};
 use sal_stmt::Stmt;
-use sal_types::{NoMemory, append};
+use sal_types::NoMemory;
 use std::alloc::Global;
 
 /// The first of this fault and that of a statement, if it has one.
@@ -40,28 +42,21 @@ pub(crate) struct Naming {
 }
 
 impl Naming {
-    /// Appends a name that the statement defines, with the least fault and the next number.
+    /// Appends a name that the statement defines, with the least fault.
     fn with_own(
         self,
         best: Option<Found>,
-        entries: &mut Vec<Entry>,
-        next: i128,
+        listing: &mut Listing,
         stmt: &Stmt,
-    ) -> Result<(Option<Found>, i128), NoMemory>
-        requires next { next ≡ spec.next entries.old.items }
-        requires small { next ≤ℤ spec.bound (length entries.old.items) }
-        ensures entries { IfOk result (λ _. entries.new.items ≡ entries.old.items ++ spec.entry_of self.numbering None entries.old.items stmt.now ∷ []) }
-        ensures fault { IfOk result (λ p. p.0 ≡ least best (if spec.is_faulty self.numbering None entries.old.items stmt.now then at_stmt BadRestriction self.number stmt.now else [])) }
-        ensures next { IfOk result (λ p. p.1 ≡ spec.next entries.new.items) }
-        ensures small { IfOk result (λ p. p.1 ≤ℤ spec.bound (length entries.old.items + 1)) }
+    ) -> Result<Option<Found>, NoMemory>
+        requires { IsListing listing.old }
+        ensures entries { IfOk result (λ _. listing.new.named.entries.items ≡ listing.old.named.entries.items ++ spec.entry_of self.numbering None listing.old.named.entries.items stmt.now ∷ []) }
+        ensures fault { IfOk result (λ found. found ≡ least best (if spec.is_faulty self.numbering None listing.old.named.entries.items stmt.now then at_stmt BadRestriction self.number stmt.now else [])) }
+        ensures listing { IfOk result (λ _. IsListing listing.new) }
     {
-        let (bad, entry) = own_entry(self.alloc, self.numbering, entries.as_slice(), next, stmt)?;
-        let after = next_after(entries.as_slice(), next, &entry);
-        append(entries, entry)?;
-        Ok((
-            with_fault(best, bad, Cause::BadRestriction, self.number, stmt),
-            after,
-        ))
+        let (bad, entry) = own_entry(self.alloc, self.numbering, listing, stmt)?;
+        listing.push(self.alloc, entry)?;
+        Ok(with_fault(best, bad, Cause::BadRestriction, self.number, stmt))
     }
 
     /// The names that the statement defines, and the first of this fault and theirs.
@@ -73,39 +68,32 @@ impl Naming {
         ensures fault { IfOk result (λ p. p.0 ≡ least best (spec.entry_faults self.numbering None self.number [] (statements.all_named (spec.item_of self.numbering) stmt.now))) }
         ensures entries { IfOk result (λ p. p.1.items ≡ spec.entries_of self.numbering None [] (statements.all_named (spec.item_of self.numbering) stmt.now)) }
     {
-        let mut entries = Vec::new(self.alloc);
+        let mut listing = Listing::new(self.alloc);
         let mut best = best;
-        let mut next = 0;
         for sub in stmt.subs.items() {
             if !is_named(self.numbering.item(), sub) {
                 continue;
             }
-            let (found, after) = self.with_own(best, &mut entries, next, sub)?;
-            best = found;
-            next = after;
+            best = self.with_own(best, &mut listing, sub)?;
         }
-        Ok((best, entries))
+        Ok((best, listing.named.entries))
     }
 
     /// Appends a name that the statement chooses from these, with the least fault.
     fn with_choice(
         self,
         best: Option<Found>,
-        from: &[Entry],
-        entries: &mut Vec<Entry>,
+        from: &Choices,
+        chosen: &mut Named,
         stmt: &Stmt,
     ) -> Result<Option<Found>, NoMemory>
-        ensures entries { IfOk result (λ _. entries.new.items ≡ entries.old.items ++ spec.entry_of self.numbering (Some from.now) entries.old.items stmt.now ∷ []) }
-        ensures fault { IfOk result (λ found. found ≡ least best (if spec.is_faulty self.numbering (Some from.now) entries.old.items stmt.now then at_stmt BadRestriction self.number stmt.now else [])) }
+        requires { AreNames chosen.old.entries.items chosen.old.names }
+        ensures entries { IfOk result (λ _. chosen.new.entries.items ≡ chosen.old.entries.items ++ spec.entry_of self.numbering (Some from.now) chosen.old.entries.items stmt.now ∷ []) }
+        ensures fault { IfOk result (λ found. found ≡ least best (if spec.is_faulty self.numbering (Some from.now) chosen.old.entries.items stmt.now then at_stmt BadRestriction self.number stmt.now else [])) }
+        ensures names { IfOk result (λ _. AreNames chosen.new.entries.items chosen.new.names) }
     {
-        let (bad, entry) = chosen_entry(
-            self.alloc,
-            self.numbering,
-            from,
-            entries.as_slice(),
-            stmt,
-        )?;
-        append(entries, entry)?;
+        let (bad, entry) = chosen_entry(self.alloc, self.numbering, from, chosen, stmt)?;
+        chosen.push(self.alloc, entry)?;
         Ok(with_fault(best, bad, Cause::BadRestriction, self.number, stmt))
     }
 
@@ -119,15 +107,29 @@ impl Naming {
         ensures fault { IfOk result (λ p. p.0 ≡ least best (spec.entry_faults self.numbering (Some from.now) self.number [] (statements.all_named (spec.item_of self.numbering) stmt.now))) }
         ensures entries { IfOk result (λ p. p.1.items ≡ spec.entries_of self.numbering (Some from.now) [] (statements.all_named (spec.item_of self.numbering) stmt.now)) }
     {
-        let mut entries = Vec::new(self.alloc);
+        let choices = Choices::new(self.alloc, from)?;
+        self.choose(best, &choices, stmt)
+    }
+
+    /// The same over choices by name.
+    fn choose(
+        self,
+        best: Option<Found>,
+        from: &Choices,
+        stmt: &Stmt,
+    ) -> Result<(Option<Found>, Vec<Entry>), NoMemory>
+        ensures fault { IfOk result (λ p. p.0 ≡ least best (spec.entry_faults self.numbering (Some from.now) self.number [] (statements.all_named (spec.item_of self.numbering) stmt.now))) }
+        ensures entries { IfOk result (λ p. p.1.items ≡ spec.entries_of self.numbering (Some from.now) [] (statements.all_named (spec.item_of self.numbering) stmt.now)) }
+    {
+        let mut chosen = Named::new(self.alloc);
         let mut best = best;
         for sub in stmt.subs.items() {
             if !is_named(self.numbering.item(), sub) {
                 continue;
             }
-            best = self.with_choice(best, from, &mut entries, sub)?;
+            best = self.with_choice(best, from, &mut chosen, sub)?;
         }
-        Ok((best, entries))
+        Ok((best, chosen.entries))
     }
 
     /// The names of the statement, chosen from these if it restricts a type with names, and the first of this fault and

@@ -130,8 +130,8 @@ fn judge_by_way<'x, 'a>(
 /// The least fault in a `type` statement and in those that it depends on, without faults of names, and its type if there is none.
 ///
 /// `around` are the blocks around the statement, from the module inwards. It takes time linear in the statements that it depends on,
-/// with the logarithm of a block's typedefs for each, and the square of the names that the type lists. For a statement that is
-/// only the name of a built-in type it takes a look-up of that name. Patterns are parsed, and not compiled.
+/// with the logarithm of a block's typedefs for each, and of the names that the type lists for each of these. For a statement that
+/// is only the name of a built-in type it takes a look-up of that name. Patterns are parsed, and not compiled.
 pub fn judge_at<'x, 'a>(
     alloc: Global,
     typedefs: &'x Typedefs<'a>,

@@ -1,5 +1,6 @@
 //! Types with names: enumerations, bits, identityrefs and unions (RFC 7950 sections 9.6, 9.7, 9.10 and 9.12).
 ghost use Rattle.std.specs.Prelude.{◌≡◌, ◌++◌, ◌∷◌, [], ℕ, ◌<◌, ◌≤◌, All, List, IfOk, map, filter, length, unwrap_or, unsigned_abs, slice_index};
+ghost use Rattle.std.specs.BTreeMap.{get_by_text};
 ghost use Rattle.std.specs.List.{flat_map, enumerate_from, position_from};
 ghost use Rattle.std.specs.Option.{option_to_list};
 ghost use Rattle.sal_restrict.specs.declared.yang_type.YangType.{YangType as Meant};
@@ -12,6 +13,7 @@ ghost use Rattle.sal_typedefs.specs.Scopes.{identity_of};
 ghost use Rattle.sal_typedefs.specs.Restrictions.{IsPosition};
 ghost use Rattle.sal_typedefs.specs.Types as spec;
 
+use crate::block::{Numbers, define};
 use crate::entry::Entry;
 use crate::typedefs::Typedefs;
 use sal_module::{Keyword, argument_of, is_named};
@@ -19,6 +21,7 @@ use sal_restrict::YangType;
 use sal_stmt::Stmt;
 use sal_types::{Duplicate, NoMemory, Seq, Str, append};
 use std::alloc::Global;
+use std::collections::BTreeMap;
 
 /// The names.
 pub(crate) fn names_in(alloc: Global, entries: &[Entry]) -> Result<Seq<Str>, NoMemory>
@@ -50,29 +53,33 @@ pub(crate) fn own_places(alloc: Global, entries: &[Entry]) -> Result<Seq<u32>, N
     Ok(Seq::from_items(places))
 }
 
-/// The index of the first entry with this name.
-fn position(names: &[Str], name: &str) -> Option<usize>
-    ensures { result ≡ position_from (same name.now) 0 names.now }
+/// The index of the first of each name.
+fn first_places(alloc: Global, names: &[Str]) -> Result<Numbers, NoMemory>
+    ensures { IfOk result (λ map. (q : List ℕ) → get_by_text map q ≡ position_from (same q) 0 names.now) }
 {
-    for (i, one) in names.iter().enumerate() {
-        if name == one.as_str() {
-            return Some(i);
-        }
+    let mut map = BTreeMap::new(alloc);
+    for (i, name) in names.iter().enumerate() {
+        define(&mut map, alloc, name.as_str(), i)?;
     }
-    None
+    Ok(map)
 }
 
-/// The original index of a name.
-fn place_of(names: &[Str], places: &[u32], name: &str) -> u32
-    ensures { result ≡ slice_index places.now (unwrap_or (position_from (same name.now) 0 names.now) 0) }
+fn place_at(places: &[u32], i: usize) -> u32
+    ensures { result ≡ slice_index places.now i }
 {
-    let i = match position(names, name) {
-        None => 0,
-        Some(i) => i,
-    };
     match places.get(i) {
         None => 0,
         Some(place) => *place,
+    }
+}
+
+/// The original index of a name, whose index is in the map.
+fn place_of(firsts: &Numbers, places: &[u32], name: &str) -> u32
+    ensures { result ≡ slice_index places.now (unwrap_or (get_by_text firsts.now name.now) 0) }
+{
+    match firsts.get(name) {
+        None => place_at(places, 0),
+        Some(i) => place_at(places, *i),
     }
 }
 
@@ -85,9 +92,22 @@ pub(crate) fn chosen_places(
 ) -> Result<Seq<u32>, NoMemory>
     ensures { IfOk result (λ it. it ≡ spec.places_of names.now places.now (spec.names_in entries.now)) }
 {
+    let firsts = first_places(alloc, names)?;
+    places_by(alloc, &firsts, places, entries)
+}
+
+/// The same by the index of each name.
+fn places_by(
+    alloc: Global,
+    firsts: &Numbers,
+    places: &[u32],
+    entries: &[Entry],
+) -> Result<Seq<u32>, NoMemory>
+    ensures { IfOk result (λ it. it ≡ map (λ (e : Named). slice_index places.now (unwrap_or (get_by_text firsts.now e.name) 0)) entries.now) }
+{
     let mut list = Vec::with_capacity(alloc, entries.len())?;
     for entry in entries {
-        append(&mut list, place_of(names, places, entry.name.as_str()))?;
+        append(&mut list, place_of(firsts, places, entry.name.as_str()))?;
     }
     Ok(Seq::from_items(list))
 }

@@ -3,10 +3,12 @@ ghost use Rattle.std.specs.Prelude.{◌≡◌, ◌≢◌, ◌≤◌, ◌≤ℤ�
 ghost use Rattle.sal_stmt.specs.Words.{first};
 ghost use Rattle.std.specs.Option.{option_copied};
 ghost use Rattle.sal_module.specs.Arguments.{decimal};
+ghost use Rattle.sal_typedefs.specs.Listings.{AreNames, IsListing};
 ghost use Rattle.sal_typedefs.specs.Entries as spec;
 
 use crate::entry::{Entry, Numbering};
 use crate::judging::small_number;
+use crate::listing::{Choices, Listing, Named};
 use sal_module::{Form, Keyword, argument_of, first_named, has_form, is_whole};
 use sal_stmt::Stmt;
 use sal_types::{Duplicate, NoMemory, Str};
@@ -159,48 +161,23 @@ impl Numbering {
     }
 }
 
-fn has_name(name: &str, entries: &[Entry]) -> bool
-    ensures { result ≡ spec.has_name name.now entries.now }
-{
-    entries.iter().any(|e| e.name.as_str() == name)
-}
-
-fn has_number(number: i128, entries: &[Entry]) -> bool
-    ensures { result ≡ spec.has_number number entries.now }
-{
-    entries.iter().any(|e| e.number == number)
-}
-
-fn named<'e>(name: &str, entries: &'e [Entry]) -> Option<&'e Entry>
-    ensures { option_copied result ≡ spec.named name.now entries.now }
-{
-    for e in entries {
-        if e.name.as_str() == name {
-            return Some(e);
-        }
-    }
-    None
-}
-
-/// A name that the statement defines, and whether it is faulty. If it states no number, it gets `next`.
+/// A name that the statement defines, and whether it is faulty. If it states no number, it gets the next one.
 pub(crate) fn own_entry(
     alloc: Global,
     n: Numbering,
-    before: &[Entry],
-    next: i128,
+    before: &Listing,
     stmt: &Stmt,
 ) -> Result<(bool, Entry), NoMemory>
-    requires next { next ≡ spec.next before.now }
-    requires small { next ≤ℤ spec.bound (length before.now) }
-    ensures bad { IfOk result (λ p. p.0 ≡ spec.is_bad n before.now stmt.now) }
-    ensures entry { IfOk result (λ p. p.1 ≡ spec.entry_of n None before.now stmt.now) }
-    ensures small { IfOk result (λ p. p.1.number ≤ℤ spec.bound (length before.now)) }
+    requires { IsListing before.now }
+    ensures bad { IfOk result (λ p. p.0 ≡ spec.is_bad n before.now.named.entries.items stmt.now) }
+    ensures entry { IfOk result (λ p. p.1 ≡ spec.entry_of n None before.now.named.entries.items stmt.now) }
+    ensures small { IfOk result (λ p. p.1.number ≤ℤ spec.bound (length before.now.named.entries.items)) }
 {
     let name = argument_of(stmt);
     let text = n.text_of(stmt);
-    let number = n.number_or(text, next);
-    let bad = has_name(name, before)
-        || has_number(number, before)
+    let number = n.number_or(text, before.next);
+    let bad = before.named.has_name(name)
+        || before.has_number(number)
         || number > n.greatest()
         || n.is_malformed(text);
     Ok((
@@ -231,16 +208,17 @@ fn entry_or(alloc: Global, found: Option<&Entry>, name: &str) -> Result<Entry, N
 pub(crate) fn chosen_entry(
     alloc: Global,
     n: Numbering,
-    from: &[Entry],
-    before: &[Entry],
+    from: &Choices,
+    before: &Named,
     stmt: &Stmt,
 ) -> Result<(bool, Entry), NoMemory>
-    ensures bad { IfOk result (λ p. p.0 ≡ spec.is_bad_choice n from.now before.now stmt.now) }
-    ensures entry { IfOk result (λ p. p.1 ≡ spec.entry_of n (Some from.now) before.now stmt.now) }
+    requires { AreNames before.now.entries.items before.now.names }
+    ensures bad { IfOk result (λ p. p.0 ≡ spec.is_bad_choice n from.now before.now.entries.items stmt.now) }
+    ensures entry { IfOk result (λ p. p.1 ≡ spec.entry_of n (Some from.now) before.now.entries.items stmt.now) }
 {
     let name = argument_of(stmt);
-    let found = named(name, from);
-    let bad = has_name(name, before) || n.differs_from(n.text_of(stmt), found);
+    let found = from.named(name);
+    let bad = before.has_name(name) || n.differs_from(n.text_of(stmt), found);
     Ok((bad, entry_or(alloc, found, name)?))
 }
 

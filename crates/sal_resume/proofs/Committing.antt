@@ -46,7 +46,7 @@ trees-kept kept opening ops are opens does k c inside at =
     λ i. record { config = config i; oper = oper i }
 
 -- all commits that are kept
-leader : (known : HubHistory) (n : ℕ) (d : Domain) → IsDomain known n d → map trees_of d.commits.items ≡ committed known n
+pub leader : (known : HubHistory) (n : ℕ) (d : Domain) → IsDomain known n d → map trees_of d.commits.items ≡ committed known n
 leader known n d is =
     let kept : List Commit = d.commits.items in
     let done : List (List Op) = commits (history known.world known.log) n in
@@ -60,3 +60,8 @@ pub exported-committed : (known : HubHistory) (n k number : ℕ) (d : Domain) (r
     → ExportsOn (tables_now known.world (history known.world known.log) n) (committed known n) k number result
 exported-committed known n k number d result is told =
     subst (λ (table : SchemaTable). ExportsOn table (committed known n) k number result) is.schema (subst (λ (trees : List Trees). ExportsOn d.schema.value trees k number result) (leader known n d is) told)
+
+-- by any table
+pub exported-by : (table : SchemaTable) (known : HubHistory) (n k number : ℕ) (d : Domain) (result : Result (List ℕ) ExportFault) → IsDomain known n d → ExportsOn table (map trees_of d.commits.items) k number result
+    → ExportsOn table (committed known n) k number result
+exported-by table known n k number d result is told = subst (λ (trees : List Trees). ExportsOn table trees k number result) (leader known n d is) told

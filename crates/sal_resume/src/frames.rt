@@ -67,6 +67,19 @@ pub fn frames_on(
     domain_frames(alloc, &domain.schema, domain, next)
 }
 
+/// The same of the controller's own domain, by another version of its schema: by the last one, a stream has one table whatever upgrades come.
+pub fn own_frames(
+    alloc: Global,
+    schema: &Schema,
+    hub: &Hub,
+    next: NextFrame,
+) -> Result<Bytes, ExportFault>
+    ensures { ExportsOn schema.now (committed hub.now 0) next.commit next.number result }
+{
+    hub.stays_lawful();
+    domain_frames(alloc, schema, &hub.domains()[0], next)
+}
+
 /// The frame with all rows of the domain's newest commit, and this number: a stream may begin with it, and goes on with `frames_on` from the next
 /// commit on (`laws::streams_begin_anywhere` of `sal_follow`).
 pub fn snapshot_of_newest(
@@ -81,4 +94,16 @@ pub fn snapshot_of_newest(
     let trees = hub.trees_of(domain);
     let domain = &hub.domains()[domain as usize];
     snapshot_of(alloc, &domain.schema, trees, number)
+}
+
+/// The same of the controller's own domain, by another version of its schema.
+pub fn own_snapshot(
+    alloc: Global,
+    schema: &Schema,
+    hub: &Hub,
+    number: u64,
+) -> Result<Bytes, ExportFault>
+    ensures { IsSnapshot schema.now number (newest hub.now 0) result }
+{
+    snapshot_of(alloc, schema, hub.trees(), number)
 }

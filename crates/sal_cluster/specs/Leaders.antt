@@ -1,0 +1,48 @@
+-- A leader: a broker whose commits of domain 0 have numbers in a stream that goes on over epochs and brokers.
+use Rattle.std.specs.Prelude.{◌≡◌, ℕ, ◌+◌, ◌-◌, ◌<◌, ◌≤◌, ◌^◌, List, length, Result, Ok, Err}
+use Rattle.sal_schema.specs.declared.table.SchemaTable.{SchemaTable}
+use Rattle.sal_rows.specs.declared.clash.Rules.{Rules}
+use Rattle.sal_history.specs.History.{commits, history}
+use Rattle.sal_history.specs.Versions.{schema_version, tables_now}
+use Rattle.sal_hub.specs.Epochs.{OpensAtTheNewest, next_hub}
+use Rattle.sal_hub.specs.HubHistory.{HubHistory}
+use Rattle.sal_follow.specs.declared.fault.ExportFault.{ExportFault}
+use Rattle.sal_follow.specs.declared.fault.ExportFault.TheVariants as export
+use Rattle.sal_follow.specs.Framed.{ExportsOn}
+use Rattle.sal_resume.specs.Committed.{committed}
+use Rattle.sal_embed.specs.Opening.{IsBegun}
+use Rattle.sal_cluster.specs.declared.fault.FramesFault.{FramesFault}
+use Rattle.sal_cluster.specs.declared.fault.FramesFault.TheVariants.{Gone, TooLong, NoMemory}
+use Rattle.sal_cluster.specs.declared.leader.Leader.{Leader}
+
+-- the number of its newest commit in the stream, if commit 0 has the number `base`
+abbrev pub number_of : HubHistory → ℕ → ℕ
+number_of known base = base + length (commits (history known.world known.log) 0)
+
+-- the present version of its schema
+abbrev pub version_of : HubHistory → ℕ
+version_of known = schema_version (history known.world known.log)
+
+abbrev pub table_now : HubHistory → SchemaTable
+table_now known = tables_now known.world (history known.world known.log) 0
+
+-- an export's result
+abbrev pub as_frames : Result (List ℕ) ExportFault → Result (List ℕ) FramesFault
+as_frames (Ok bytes) = Ok bytes
+as_frames (Err (export.TooLong number)) = Err (TooLong number)
+as_frames (Err export.NoMemory) = Err NoMemory
+
+-- The frames of the commits with numbers above this one; the broker does not keep those below its commit 0.
+abbrev pub Sends : HubHistory → ℕ → ℕ → Result (List ℕ) FramesFault → Type 0
+Sends known base above (Err Gone) = above < base
+Sends known base above result =
+    (base ≤ above) × ((told : Result (List ℕ) ExportFault) × ExportsOn (table_now known) (committed known 0) (above + 1 - base) (above + 1) told × (result ≡ as_frames told))
+
+-- The next epoch of a leader: its hub begins with the newest trees, and its commit 0 has the number that the newest commit had. No step was made.
+pub record IsNext (old new : Leader) : Type 0 where
+  pub rules : Rules
+  pub hub : new.broker.hub ≡ next_hub rules old.broker.hub
+  pub newest : OpensAtTheNewest old.broker.hub new.broker.hub.world
+  pub base : new.base ≡ number_of old.broker.hub old.base
+  pub version : old.version + version_of old.broker.hub < 2 ^ 32 → new.version ≡ old.version + version_of old.broker.hub
+  pub begun : IsBegun new.broker

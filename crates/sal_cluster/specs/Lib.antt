@@ -1,0 +1,3 @@
+pub mod Leaders
+pub mod Looks
+pub mod StandBys

@@ -1,0 +1,43 @@
+-- A stand-by: a follower of domain 0 of a script, by the last version of its schema, that can become the leader.
+use Rattle.std.specs.Prelude.{◌≡◌, ◌⊎◌, ℕ, Bool, true, false, List, Option, Some, None, Result, Ok, Err, ⊤}
+use Rattle.std.specs.Option.{is_some}
+use Rattle.sal_types.specs.declared.value.Store.{Store}
+use Rattle.sal_types.specs.declared.row.Row.{Row}
+use Rattle.sal_types.specs.Tree.{under}
+use Rattle.sal_history.specs.World.{Domain}
+use Rattle.sal_history.specs.declared.opening.Opening.{Opening}
+use Rattle.sal_client.specs.Lists.{begun_with}
+use Rattle.sal_script.specs.Reading.{parts}
+use Rattle.sal_follow.specs.declared.fault.FollowFault.{FollowFault}
+use Rattle.sal_follow.specs.declared.fault.FollowFault.TheVariants as follow
+use Rattle.sal_follow.specs.States.{Feeds, Following}
+use Rattle.sal_prepare.specs.declared.resumed.Ground.{Ground}
+use Rattle.sal_prepare.specs.declared.status.Status.{Status}
+use Rattle.sal_prepare.specs.Resumed.{are_of_version, resumed}
+use Rattle.sal_prepare.specs.Scripted.{IsStatusOf}
+use Rattle.sal_embed.specs.Opening.{IsBegun}
+use Rattle.sal_cluster.specs.declared.leader.Leader.{Leader}
+use Rattle.sal_cluster.specs.declared.standby.LeadFault.{LeadFault}
+use Rattle.sal_cluster.specs.declared.standby.LeadFault.TheVariants.{Empty, BadVersion, Refused}
+
+-- its trees, as an opening
+abbrev pub opening_held : Following → Opening
+opening_held f = record { config = f.held.config; oper = f.held.oper }
+
+-- the world of the script that goes on with these trees by this version
+abbrev pub world_led : Ground → Following → ℕ → Result (List Domain) Status
+world_led ground f version = resumed ground.script.rules (parts ground.script).devices (begun_with version ground.readers) (opening_held f)
+
+-- the effect of a piece, without the follower's number
+abbrev pub Takes : List ℕ → Following → Following → Result ⊤ FollowFault → Type 0
+Takes piece old new (Ok done) = (v : Option ℕ) × Feeds piece old new (Ok v)
+Takes piece old new (Err fault) = Feeds piece old new (Err fault) ⊎ ((fault ≡ follow.NoMemory) × (new ≡ old))
+
+-- The leader of the stand-by's number: no step was made, and domain 0 opens with the stand-by's trees, by this version. Or there is no frame yet, the
+-- trees are no trees of this version, or the opening is refused with this status.
+abbrev pub Leads : Ground → Following → ℕ → Result Leader LeadFault → Type 0
+Leads ground f version (Ok it) =
+    (f.held.version ≡ Some it.base) × (it.version ≡ version) × (world_led ground f version ≡ Ok it.broker.hub.world) × IsBegun it.broker
+Leads ground f version (Err Empty) = f.held.version ≡ None
+Leads ground f version (Err BadVersion) = are_of_version ground.readers version (opening_held f) ≡ false
+Leads ground f version (Err (Refused status)) = IsStatusOf (world_led ground f version) status

@@ -1,0 +1,180 @@
+//! A broker whose commits have numbers in a stream.
+ghost use Rattle.std.specs.Prelude.{◌≡◌, ◌≤◌, ◌<◌, ◌+◌, ◌-◌, ◌^◌, [], IfOk, IfSome, length};
+ghost use Rattle.sal_hub.specs.Epochs.{OpensAtTheNewest, next_hub};
+ghost use Rattle.sal_hub.specs.HubHistory.{HubHistory};
+ghost use Rattle.sal_rows.specs.declared.clash.Rules.{Rules as Ruled};
+ghost use Rattle.sal_follow.specs.Framed.{IsSnapshot};
+ghost use Rattle.sal_resume.specs.Newest.{newest};
+ghost use Rattle.sal_prepare.specs.Scripted.{tables_in};
+ghost use Rattle.sal_history.specs.History.{newest_tree};
+ghost use Rattle.sal_script.specs.Tables.{last_in, tables_of, versions_of};
+ghost use Rattle.sal_cluster.specs.Looks.{Looks};
+ghost use Rattle.sal_embed.specs.Opening.{IsBegun};
+ghost use Rattle.sal_cluster.specs.Leaders.{IsNext, Sends, number_of, table_now, version_of};
+
+use crate::fault::{FramesFault, as_frames};
+use crate::look::{LookFault, look_in_tree};
+use sal_embed::{Embedded, OpenHub};
+use sal_epoch::next_hub;
+use sal_follow::{ExportFault, NextFrame};
+use sal_hub::Hub;
+use sal_prepare::laws::epochs_read_on;
+use sal_resume::{frames_on, snapshot_of_newest};
+use sal_rows::Rules;
+use sal_tree::tree_of;
+use sal_types::{Bytes, Store, Str};
+use std::alloc::Global;
+
+/// A broker whose commits of domain 0 have numbers in a stream that goes on over epochs and brokers.
+#[derive(Drop)]
+pub struct Leader {
+    pub broker: Embedded,
+    /// The number of commit 0 of domain 0.
+    pub base: u64,
+    /// The version of the script that is version 0 of domain 0.
+    pub version: u32,
+}
+
+impl Leader {
+    /// The number of the newest commit of domain 0 in the stream; none if it has more than 64 bits.
+    pub fn number(&self) -> Option<u64>
+        ensures { IfSome result (λ number. number ≡ number_of self.now.broker.hub self.now.base) }
+    {
+        self.base.checked_add(self.broker.hub().newest())
+    }
+
+    /// The frames of the commits of domain 0 with numbers above this one: none if that of the newest is not greater.
+    pub fn frames(&self, alloc: Global, above: u64) -> Result<Bytes, FramesFault>
+        ensures { Sends self.now.broker.hub self.now.base above result }
+    {
+        if above < self.base {
+            return Err(FramesFault::Gone);
+        }
+        frames_above(alloc, self.broker.hub(), self.base, above)
+    }
+
+    /// The frame with all rows of the newest commit of domain 0: a stream may begin with it.
+    pub fn snapshot(&self, alloc: Global) -> Result<Bytes, ExportFault>
+        ensures { IsSnapshot (table_now self.now.broker.hub) (number_of self.now.broker.hub self.now.base) (newest self.now.broker.hub 0) result }
+    {
+        match self.number() {
+            Some(number) => newest_frame(alloc, self.broker.hub(), number),
+            None => Err(ExportFault::NoMemory),
+        }
+    }
+
+    /// The text of a read of the path in the newest tree of domain 0. It is no step: it adds nothing to the log or the report.
+    pub fn look(&self, alloc: Global, store: Store, path: &[u8]) -> Result<Str, LookFault>
+        ensures { Looks (tables_of self.now.broker.hub.world) (last_in (versions_of self.now.broker.hub.world) 0) (newest_tree self.now.broker.hub.world self.now.broker.hub.log 0 store) path.now result }
+    {
+        let broker = &self.broker;
+        let tree = tree_of(broker.hub().trees(), store);
+        look_in_tree(alloc, broker.readers().own(), broker.schemas(), tree, path)
+    }
+
+    /// The leader of the next epoch, if this is the number of the newest commit: it begins with the newest trees. Clients, mounts and pending
+    /// submissions end. It takes no memory.
+    pub fn next_epoch(self, alloc: Global, number: u64) -> Leader
+        requires { number ≡ number_of self.broker.hub self.base }
+        ensures { IsNext self result }
+    {
+        let Leader {
+            broker,
+            version,
+            ..
+        } = self;
+        let past = past_of(broker.hub());
+        let broker = begun_anew(alloc, broker.into_hub(), past);
+        Leader {
+            broker,
+            base: number,
+            version: later(version, past.version),
+        }
+    }
+}
+
+// The frames above a number, which is not below that of commit 0.
+fn frames_above(alloc: Global, hub: &Hub, base: u64, above: u64) -> Result<Bytes, FramesFault>
+    requires { base ≤ above }
+    ensures { Sends hub.now base above result }
+{
+    hub.stays_lawful();
+    match after(above) {
+        Some(number) => as_frames(frames_on(
+            alloc,
+            hub,
+            0,
+            NextFrame {
+                commit: number - base,
+                number,
+            },
+        )),
+        None => Err(FramesFault::NoMemory),
+    }
+}
+
+// The number after this one.
+fn after(number: u64) -> Option<u64>
+    ensures { IfSome result (λ next. next ≡ number + 1) }
+{
+    number.checked_add(1)
+}
+
+// The frame with all rows of the newest commit, and this number.
+fn newest_frame(alloc: Global, hub: &Hub, number: u64) -> Result<Bytes, ExportFault>
+    ensures { IsSnapshot (table_now hub.now) number (newest hub.now 0) result }
+{
+    hub.stays_lawful();
+    snapshot_of_newest(alloc, hub, 0, number)
+}
+
+// The present version of the schema of domain 0, and the version rules.
+#[derive(Clone, Copy, Drop)]
+struct Past {
+    version: u32,
+    rules: Rules,
+}
+
+fn past_of(hub: &Hub) -> Past
+    ensures { result.version ≡ version_of hub.now }
+{
+    hub.stays_lawful();
+    let domain = &hub.domains()[0];
+    Past {
+        version: domain.version,
+        rules: domain.rules,
+    }
+}
+
+// A version after others; the largest number if there is none.
+fn later(version: u32, past: u32) -> u32
+    ensures { version + past < 2 ^ 32 → result ≡ version + past }
+{
+    match version.checked_add(past) {
+        Some(later) => later,
+        None => u32::MAX,
+    }
+}
+
+// The broker of the next epoch.
+fn begun_anew(alloc: Global, open: OpenHub, past: Past) -> Embedded
+    requires schemas { tables_in open.schemas.items ≡ tables_of open.hub.world }
+    requires few { length open.schemas.items ≤ 64 }
+    requires readers { open.readers ≡ versions_of open.hub.world }
+    requires past { past.version ≡ version_of open.hub }
+    ensures hub { result.hub ≡ next_hub past.rules open.hub }
+    ensures newest { OpensAtTheNewest open.hub result.hub.world }
+    ensures begun { IsBegun result }
+{
+    let OpenHub {
+        hub,
+        schemas,
+        mut readers,
+        checked_reads,
+    } = open;
+    hub.stays_lawful();
+    epochs_read_on();
+    readers.begin_with(past.version);
+    let next = next_hub(alloc, hub, past.rules);
+    Embedded::over(alloc, next, schemas, readers, checked_reads)
+}

@@ -1,9 +1,9 @@
 -- A stand-by: a follower of domain 0 of a script, by the last version of its schema, that can become the leader.
-use Rattle.std.specs.Prelude.{◌≡◌, ◌⊎◌, ℕ, Bool, true, false, List, Option, Some, None, Result, Ok, Err, ⊤}
+use Rattle.std.specs.Prelude.{◌≡◌, ◌⊎◌, ℕ, Bool, true, false, List, Option, Some, None, Result, Ok, Err, ⊤, codes}
 use Rattle.std.specs.Option.{is_some}
 use Rattle.sal_types.specs.declared.value.Store.{Store}
 use Rattle.sal_types.specs.declared.row.Row.{Row}
-use Rattle.sal_types.specs.Tree.{under}
+use Rattle.sal_types.specs.Reading.{◌>>=◌}
 use Rattle.sal_history.specs.World.{Domain}
 use Rattle.sal_history.specs.declared.opening.Opening.{Opening}
 use Rattle.sal_client.specs.Lists.{begun_with}
@@ -13,12 +13,26 @@ use Rattle.sal_follow.specs.declared.fault.FollowFault.TheVariants as follow
 use Rattle.sal_follow.specs.States.{Feeds, Following}
 use Rattle.sal_prepare.specs.declared.resumed.Ground.{Ground}
 use Rattle.sal_prepare.specs.declared.status.Status.{Status}
+use Rattle.sal_prepare.specs.Resumed as spec
 use Rattle.sal_prepare.specs.Resumed.{are_of_version, resumed}
 use Rattle.sal_prepare.specs.Scripted.{IsStatusOf}
-use Rattle.sal_embed.specs.Opening.{IsBegun}
+use Rattle.sal_embed.specs.Opening.{IsBegun, without}
 use Rattle.sal_cluster.specs.declared.leader.Leader.{Leader}
 use Rattle.sal_cluster.specs.declared.standby.LeadFault.{LeadFault}
 use Rattle.sal_cluster.specs.declared.standby.LeadFault.TheVariants.{Empty, BadVersion, Refused}
+
+-- a script with its versions, in the code's form
+abbrev pub seen : Ground → spec.Ground
+seen it = record { parts = parts it.script; tables = it.readers }
+
+-- the same, if the script has no clients and no order, as one from which a broker is opened
+abbrev pub bare : spec.Ground → Result spec.Ground Status
+bare it = without (codes "clients") it.parts.clients (without (codes "order") it.parts.order (Ok it))
+
+-- The script of the bytes with its versions, or the status of the first fault: of all faults of a script, then its clients, then its order. The
+-- opening trees are not read.
+abbrev pub grounded : List ℕ → Result spec.Ground Status
+grounded bytes = spec.ground bytes >>= bare
 
 -- its trees, as an opening
 abbrev pub opening_held : Following → Opening

@@ -1,4 +1,4 @@
-//! Why there are no frames.
+//! Why there are no frames, and why an epoch does not begin.
 ghost use Rattle.std.specs.Prelude.{◌≡◌};
 ghost use Rattle.sal_cluster.specs.Leaders.{as_frames};
 
@@ -13,6 +13,15 @@ pub enum FramesFault {
     /// The text of the frame of this number has more than 16,777,216 bytes.
     TooLong { number: u64 },
     NoMemory,
+}
+
+/// Why the next epoch does not begin.
+#[derive(Clone, Copy, Debug, PartialEq, Eq)]
+pub enum EpochFault {
+    /// A submission is not decided.
+    Pending,
+    /// The newest commit has another number.
+    NotNewest,
 }
 
 /// The result of an export.

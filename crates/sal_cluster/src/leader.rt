@@ -1,5 +1,5 @@
 //! A broker whose commits have numbers in a stream.
-ghost use Rattle.std.specs.Prelude.{◌≡◌, ◌≤◌, ◌<◌, ◌+◌, ◌-◌, ◌^◌, [], IfOk, IfSome, length};
+ghost use Rattle.std.specs.Prelude.{◌≡◌, ◌≤◌, ◌<◌, ◌+◌, ◌-◌, ◌^◌, [], IfOk, IfSome, SomeIff, length, min, nat_eq};
 ghost use Rattle.sal_hub.specs.Epochs.{OpensAtTheNewest, next_hub};
 ghost use Rattle.sal_hub.specs.HubHistory.{HubHistory};
 ghost use Rattle.sal_rows.specs.declared.clash.Rules.{Rules as Ruled};
@@ -10,14 +10,15 @@ ghost use Rattle.sal_history.specs.History.{newest_tree};
 ghost use Rattle.sal_script.specs.Tables.{last_in, tables_of, versions_of};
 ghost use Rattle.sal_cluster.specs.Looks.{Looks};
 ghost use Rattle.sal_embed.specs.Opening.{IsBegun};
-ghost use Rattle.sal_cluster.specs.Leaders.{IsNext, Sends, number_of, table_now, version_of};
+ghost use Rattle.sal_hub.specs.Answers.{limit};
+ghost use Rattle.sal_cluster.specs.Leaders.{Begins, IsNext, Sends, epoch_fault, number_of, present, table_now, version_of};
 
-use crate::fault::{FramesFault, as_frames};
+use crate::fault::{EpochFault, FramesFault, as_frames};
 use crate::look::{LookFault, look_in_tree};
 use sal_embed::{Embedded, OpenHub};
 use sal_epoch::next_hub;
 use sal_follow::{ExportFault, NextFrame};
-use sal_hub::Hub;
+use sal_hub::{Hub, MAX_ENTRIES};
 use sal_prepare::laws::epochs_read_on;
 use sal_resume::{frames_on, snapshot_of_newest};
 use sal_rows::Rules;
@@ -38,9 +39,23 @@ pub struct Leader {
 impl Leader {
     /// The number of the newest commit of domain 0 in the stream; none if it has more than 64 bits.
     pub fn number(&self) -> Option<u64>
-        ensures { IfSome result (λ number. number ≡ number_of self.now.broker.hub self.now.base) }
+        ensures { SomeIff result (number_of self.now.broker.hub self.now.base < 2 ^ 64) (number_of self.now.broker.hub self.now.base) }
     {
         self.base.checked_add(self.broker.hub().newest())
+    }
+
+    /// The present version of the schema of domain 0, as the script counts: a stand-by leads by it. The largest number if it has more than 32 bits.
+    pub fn present(&self) -> u32
+        ensures { result ≡ present self.now }
+    {
+        later(self.version, past_of(self.broker.hub()).version)
+    }
+
+    /// How many more calls the log has room for: a host begins the next epoch before there is none.
+    pub fn entries_left(&self) -> usize
+        ensures { result ≡ limit - length self.now.broker.hub.log }
+    {
+        MAX_ENTRIES.saturating_sub(self.broker.hub().log().len())
     }
 
     /// The frames of the commits of domain 0 with numbers above this one: none if that of the newest is not greater.
@@ -72,23 +87,53 @@ impl Leader {
         look_in_tree(alloc, broker.readers().own(), broker.schemas(), tree, path)
     }
 
-    /// The leader of the next epoch, if this is the number of the newest commit: it begins with the newest trees. Clients, mounts and pending
-    /// submissions end. It takes no memory.
-    pub fn next_epoch(self, alloc: Global, number: u64) -> Leader
+    /// Why the next epoch does not begin with this number of the newest commit, if it does not.
+    pub fn epoch_fault(&self, newest: u64) -> Option<EpochFault>
+        ensures { result ≡ epoch_fault self.now.broker.hub self.now.base newest }
+    {
+        if self.broker.hub().pending() > 0 {
+            return Some(EpochFault::Pending);
+        }
+        if self.is_newest(newest) {
+            return None;
+        }
+        Some(EpochFault::NotNewest)
+    }
+
+    // Whether the newest commit has this number.
+    fn is_newest(&self, number: u64) -> bool
+        ensures { result ≡ nat_eq number (number_of self.now.broker.hub self.now.base) }
+    {
+        match number.checked_sub(self.base) {
+            Some(commits) => commits == self.broker.hub().newest(),
+            None => false,
+        }
+    }
+
+    /// The leader of the next epoch, if no submission is pending and this is the number of the newest commit, whose frame the caller has: it begins
+    /// with the newest trees. Clients with their transactions, chains and listeners end, and so do mounts. Else the leader is returned as it was. It
+    /// takes no memory.
+    pub fn next_epoch(self, alloc: Global, newest: u64) -> Result<Leader, (Leader, EpochFault)>
+        ensures { Begins self newest result }
+    {
+        match self.epoch_fault(newest) {
+            Some(fault) => Err((self, fault)),
+            None => Ok(self.begun(alloc, newest)),
+        }
+    }
+
+    // The leader of the next epoch.
+    fn begun(self, alloc: Global, number: u64) -> Leader
         requires { number ≡ number_of self.broker.hub self.base }
         ensures { IsNext self result }
     {
-        let Leader {
-            broker,
-            version,
-            ..
-        } = self;
-        let past = past_of(broker.hub());
-        let broker = begun_anew(alloc, broker.into_hub(), past);
+        let version = self.present();
+        let past = past_of(self.broker.hub());
+        let broker = begun_anew(alloc, self.broker.into_hub(), past);
         Leader {
             broker,
             base: number,
-            version: later(version, past.version),
+            version,
         }
     }
 }
@@ -146,14 +191,11 @@ fn past_of(hub: &Hub) -> Past
     }
 }
 
-// A version after others; the largest number if there is none.
+// A version after others; the largest number if it has more than 32 bits.
 fn later(version: u32, past: u32) -> u32
-    ensures { version + past < 2 ^ 32 → result ≡ version + past }
+    ensures { result ≡ min (version + past) (2 ^ 32 - 1) }
 {
-    match version.checked_add(past) {
-        Some(later) => later,
-        None => u32::MAX,
-    }
+    version.saturating_add(past)
 }
 
 // The broker of the next epoch.
@@ -164,6 +206,7 @@ fn begun_anew(alloc: Global, open: OpenHub, past: Past) -> Embedded
     requires past { past.version ≡ version_of open.hub }
     ensures hub { result.hub ≡ next_hub past.rules open.hub }
     ensures newest { OpensAtTheNewest open.hub result.hub.world }
+    ensures reads { result.checked_reads ≡ open.checked_reads }
     ensures begun { IsBegun result }
 {
     let OpenHub {

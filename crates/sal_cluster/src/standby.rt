@@ -10,13 +10,13 @@ ghost use Rattle.sal_follow.specs.Fed.{IsFedBy};
 ghost use Rattle.sal_follow.specs.Framed.{IsSnapshotAt};
 ghost use Rattle.sal_follow.specs.Laws.{trees_held};
 ghost use Rattle.sal_follow.specs.Stream.{fresh_at, rows_held};
-ghost use Rattle.sal_prepare.specs.Resumed.{are_of_version, ground, resumed};
+ghost use Rattle.sal_prepare.specs.Resumed.{are_of_version, resumed};
 ghost use Rattle.sal_prepare.specs.Scripted as spec;
-ghost use Rattle.sal_cluster.specs.StandBys.{Leads, Takes};
+ghost use Rattle.sal_cluster.specs.StandBys.{Leads, Takes, bare, grounded, seen};
 
 use crate::leader::Leader;
 use crate::look::{LookFault, look_in_rows};
-use sal_embed::Embedded;
+use sal_embed::{Embedded, no_clients, no_order};
 use sal_follow::laws::places_count_bytes;
 use sal_follow::{ExportFault, FollowFault, Follower};
 use sal_history::Opening;
@@ -76,13 +76,13 @@ pub enum LeadFault {
 }
 
 impl StandBy {
-    /// A stand-by of the broker of this script, before a stream that begins with the frame of this number. The clients and the order of the script
-    /// are not looked at.
+    /// A stand-by of the broker of this script, before a stream that begins with the frame of this number; or the first fault of the script, which has
+    /// no clients and no order. Its opening trees are not read.
     pub fn open(alloc: Global, script: &[u8], first: u64) -> Result<StandBy, Status>
-        ensures ground { spec.Comes (λ it. record { parts = parts it.ground.script; tables = it.ground.readers }) (ground script.now) result }
+        ensures ground { spec.Comes (λ it. seen it.ground) (grounded script.now) result }
         ensures fresh { IfOk result (λ it. it.follower.held ≡ fresh_at first) }
     {
-        let ground = ground_of(alloc, script)?;
+        let ground = bare_ground(alloc, script)?;
         match before(alloc, &ground, first) {
             Ok(follower) => Ok(StandBy {
                 standing: Standing { follower, ground },
@@ -149,6 +149,23 @@ impl StandBy {
             None => Err(LeadFault::Empty),
         }
     }
+}
+
+// The script of the bytes with its schemas, if it has no clients and no order.
+fn bare_ground(alloc: Global, script: &[u8]) -> Result<Ground, Status>
+    ensures { spec.Comes seen (grounded script.now) result }
+{
+    let ground = ground_of(alloc, script)?;
+    bare(alloc, &ground)?;
+    Ok(ground)
+}
+
+// Whether the script has no clients and no order.
+fn bare(alloc: Global, ground: &Ground) -> Result<(), Status>
+    ensures { spec.Comes (λ done. seen ground.now) (bare (seen ground.now)) result }
+{
+    no_clients(alloc, &ground.script)?;
+    no_order(alloc, &ground.script)
 }
 
 // The leader of the follower's number.

@@ -1,1 +1,4 @@
+pub mod Bare
+pub mod Epoching
+pub mod Owned
 pub mod Sending

@@ -1,5 +1,5 @@
 -- A leader: a broker whose commits of domain 0 have numbers in a stream that goes on over epochs and brokers.
-use Rattle.std.specs.Prelude.{◌≡◌, ℕ, ◌+◌, ◌-◌, ◌<◌, ◌≤◌, ◌^◌, List, length, min, nat_eq, nat_lt, if◌then◌else◌, Option, None, Some, MatchResult, Result, Ok, Err}
+use Rattle.std.specs.Prelude.{◌≡◌, ℕ, ◌+◌, ◌-◌, ◌<◌, ◌≤◌, ◌^◌, List, length, min, nat_eq, nat_lt, Bool, true, false, Option, None, Some, MatchResult, Result, Ok, Err}
 use Rattle.sal_schema.specs.declared.table.SchemaTable.{SchemaTable}
 use Rattle.sal_rows.specs.declared.clash.Rules.{Rules}
 use Rattle.sal_history.specs.History.{commits, history, pending}
@@ -54,10 +54,14 @@ pub record IsNext (old new : Leader) : Type 0 where
   pub reads : new.broker.checked_reads ≡ old.broker.checked_reads
   pub begun : IsBegun new.broker
 
--- why it does not begin: a submission is pending, or the newest commit has another number
+-- why it does not begin, by whether a submission is pending, and whether the newest commit has the number
+abbrev pub fault_by : Bool → Bool → Option EpochFault
+fault_by true same = Some Pending
+fault_by false true = None
+fault_by false false = Some NotNewest
+
 abbrev pub epoch_fault : HubHistory → ℕ → ℕ → Option EpochFault
-epoch_fault known base newest =
-    if nat_lt 0 (pending (history known.world known.log)) then Some Pending else (if nat_eq newest (number_of known base) then None else Some NotNewest)
+epoch_fault known base newest = fault_by (nat_lt 0 (pending (history known.world known.log))) (nat_eq newest (number_of known base))
 
 -- Compare and begin: the next epoch of the leader, or the leader as it was, with why it does not begin.
 abbrev pub Begins : Leader → ℕ → Result Leader (Leader × EpochFault) → Type 0

@@ -1,10 +1,10 @@
 -- Everything but the number is that of the next broker.
-use Rattle.std.proofs.Common.{◌≡◌, ℕ, ◌+◌, ◌<◌, ◌^◌, ap, sym, ◌∙◌, subst}
+use Rattle.std.proofs.Common.{◌≡◌, ap, sym, ◌∙◌, subst}
 use Rattle.sal_hub.specs.Epochs.{OpensAtTheNewest, next_hub}
 use Rattle.sal_hub.specs.HubHistory.{HubHistory}
 use Rattle.sal_script.specs.Tables.{tables_of, versions_of}
 use Rattle.sal_cluster.specs.Leaders.{version_of}
-use Rattle.sal_cluster.proofs.leader.Leader.next_epoch.Goals as goal
+use Rattle.sal_cluster.proofs.leader.Leader.begun.Goals as goal
 
 pub begun_anew-requires-clause-schemas : goal.begun_anew-requires-clause-schemas
 begun_anew-requires-clause-schemas c = c.into_hub.ensures.schemas ∙ ap (λ (h : HubHistory). tables_of h.world) (sym c.into_hub.ensures.hub)
@@ -18,12 +18,12 @@ begun_anew-requires-clause-past c = c.past_of.ensures ∙ ap version_of (c.hub.e
 pub returns : goal.returns
 returns c =
     let same = c.into_hub.ensures.hub in
-    let past : c.past_of.result.version ≡ version_of c.args.self.broker.hub = c.past_of.ensures ∙ ap version_of c.hub.ensures in
     record {
       rules = c.past_of.result.rules;
       hub = c.begun_anew.ensures.hub ∙ ap (next_hub c.past_of.result.rules) same;
       newest = subst (λ (h : HubHistory). OpensAtTheNewest h c.begun_anew.result.hub.world) same c.begun_anew.ensures.newest;
       base = c.requires;
-      version = λ few. subst (λ (n : ℕ). c.args.self.version + n < 2 ^ 32 → c.later.result ≡ c.args.self.version + n) past c.later.ensures few;
+      version = c.present.ensures;
+      reads = c.begun_anew.ensures.reads ∙ c.into_hub.ensures.reads;
       begun = c.begun_anew.ensures.begun;
     }

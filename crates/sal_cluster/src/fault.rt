@@ -12,6 +12,7 @@ pub enum FramesFault {
     Gone,
     /// The text of the frame of this number has more than 16,777,216 bytes.
     TooLong { number: u64 },
+    /// Memory ran out, or a number has more than 64 bits.
     NoMemory,
 }
 

@@ -154,8 +154,19 @@ fn frames_above(alloc: Global, hub: &Hub, base: u64, above: u64) -> Result<Bytes
                 number,
             },
         )),
-        None => Err(FramesFault::NoMemory),
+        None => past_all(alloc, hub, base, above),
     }
+}
+
+// The frames above the largest number: none, unless that of the newest commit has more than 64 bits.
+fn past_all(alloc: Global, hub: &Hub, base: u64, above: u64) -> Result<Bytes, FramesFault>
+    requires { base ≤ above }
+    ensures { Sends hub.now base above result }
+{
+    if hub.newest() > above - base {
+        return Err(FramesFault::NoMemory);
+    }
+    Ok(Bytes::from_items(Vec::new(alloc)))
 }
 
 // The number after this one.

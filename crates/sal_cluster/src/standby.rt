@@ -138,7 +138,7 @@ impl StandBy {
     pub fn lead(&self, alloc: Global, version: u32) -> Result<Leader, LeadFault>
         ensures { Leads self.now.ground self.now.follower version result }
     {
-        match self.standing.follower.version() {
+        match self.number() {
             Some(base) => led(
                 alloc,
                 &self.standing.ground,

@@ -10,18 +10,18 @@ use Rattle.sal_script.specs.Tables.{tables_of, versions_of}
 use Rattle.sal_client.specs.Lists.{begun_with}
 use Rattle.sal_cluster.proofs.leader.begun_anew.Goals as goal
 
-pub next_hub-requires : goal.next_hub-requires
-next_hub-requires c =
+pub next_hub-next-requires : goal.next_hub-next-requires
+next_hub-next-requires c =
     let schemas = c.args.open.schemas.items in
     let long = sym (length-map schemas (λ (s : Arc SchemaTable Global). s.value)) ∙ ap length c.requires.schemas ∙ length-map c.args.open.hub.world (λ (d : Domain). version_in d (length d.upgrades)) in
     omega (arith, long, c.requires.few)
 
 pub over-requires-clause-schemas : goal.over-requires-clause-schemas
 over-requires-clause-schemas c =
-    c.requires.schemas ∙ sym (c.epochs_read_on.ensures c.args.past.rules c.args.open.hub c.stays_lawful.ensures.only).1 ∙ ap (λ (h : HubHistory). tables_of h.world) (sym c.next_hub.ensures.next)
+    c.requires.schemas ∙ sym (c.epochs_read_on.ensures c.args.past.rules c.args.open.hub c.stays_lawful.ensures.only).1 ∙ ap (λ (h : HubHistory). tables_of h.world) (sym c.next_hub-next.ensures.next)
 
 pub over-requires-clause-readers : goal.over-requires-clause-readers
 over-requires-clause-readers c =
     c.begin_with.ensures
     ∙ (λ i. begun_with (c.requires.past i) (c.requires.readers i))
-    ∙ sym (c.epochs_read_on.ensures c.args.past.rules c.args.open.hub c.stays_lawful.ensures.only).0 ∙ ap (λ (h : HubHistory). versions_of h.world) (sym c.next_hub.ensures.next)
+    ∙ sym (c.epochs_read_on.ensures c.args.past.rules c.args.open.hub c.stays_lawful.ensures.only).0 ∙ ap (λ (h : HubHistory). versions_of h.world) (sym c.next_hub-next.ensures.next)

@@ -9,7 +9,7 @@ use Rattle.sal_follow.specs.declared.fault.ExportFault.TheVariants.{TooLong, NoM
 use Rattle.sal_follow.specs.declared.frame.Frame.{Frame}
 use Rattle.sal_follow.specs.Framed.{AreExported, ExportsOn, Trees, before_at, frames_from, frames_on}
 use Rattle.sal_resume.specs.Committed.{committed, trees_by}
-use Rattle.sal_cluster.specs.Leaders.{Sends, as_frames, table_now}
+use Rattle.sal_cluster.specs.Leaders.{Sends, as_frames, table_sent}
 
 -- there are no frames after the last of these trees
 none_after : (trees : List Trees) (k number : ℕ) → length trees ≤ k → frames_on trees k number ≡ []
@@ -25,11 +25,11 @@ sends_none known base above low past =
     let k : ℕ = above + 1 - base in
     let all = long known in
     let none : frames_on trees k (above + 1) ≡ [] = none_after trees k (above + 1) (omega (arith, all, past, low)) in
-    let exported : ExportsOn (table_now known) trees k (above + 1) (Ok []) = subst (λ (fs : List Frame). AreExported (table_now known) fs (Ok [])) (sym none) (refl, refl, tt) in
+    let exported : ExportsOn (table_sent known) trees k (above + 1) (Ok []) = subst (λ (fs : List Frame). AreExported (table_sent known) fs (Ok [])) (sym none) (refl, refl, tt) in
     (low, Ok [], exported, refl)
 
 module _ (known : HubHistory) (base above : ℕ) (low : base ≤ above) where
-  pub sends : (told : Result (List ℕ) ExportFault) → ExportsOn (table_now known) (committed known 0) (above + 1 - base) (above + 1) told → Sends known base above (as_frames told)
+  pub sends : (told : Result (List ℕ) ExportFault) → ExportsOn (table_sent known) (committed known 0) (above + 1 - base) (above + 1) told → Sends known base above (as_frames told)
   sends (Ok bytes) is = (low, Ok bytes, is, refl)
   sends (Err (TooLong number)) is = (low, Err (TooLong number), is, refl)
   sends (Err NoMemory) is = (low, Err NoMemory, is, refl)

@@ -3,13 +3,14 @@ use Rattle.std.specs.Prelude.{◌≡◌, ℕ, ◌+◌, ◌-◌, ◌<◌, ◌≤�
 use Rattle.sal_schema.specs.declared.table.SchemaTable.{SchemaTable}
 use Rattle.sal_rows.specs.declared.clash.Rules.{Rules}
 use Rattle.sal_history.specs.History.{commits, history, pending}
-use Rattle.sal_history.specs.Versions.{schema_version, tables_now}
+use Rattle.sal_history.specs.Versions.{schema_version}
 use Rattle.sal_hub.specs.Epochs.{OpensAtTheNewest, next_hub}
 use Rattle.sal_hub.specs.HubHistory.{HubHistory}
 use Rattle.sal_follow.specs.declared.fault.ExportFault.{ExportFault}
 use Rattle.sal_follow.specs.declared.fault.ExportFault.TheVariants as export
 use Rattle.sal_follow.specs.Framed.{ExportsOn}
 use Rattle.sal_resume.specs.Committed.{committed}
+use Rattle.sal_script.specs.Tables.{last_in, versions_of}
 use Rattle.sal_embed.specs.Opening.{IsBegun}
 use Rattle.sal_cluster.specs.declared.fault.EpochFault.{EpochFault}
 use Rattle.sal_cluster.specs.declared.fault.EpochFault.TheVariants.{NotNewest, Pending}
@@ -25,8 +26,9 @@ number_of known base = base + length (commits (history known.world known.log) 0)
 abbrev pub version_of : HubHistory → ℕ
 version_of known = schema_version (history known.world known.log)
 
-abbrev pub table_now : HubHistory → SchemaTable
-table_now known = tables_now known.world (history known.world known.log) 0
+-- the last version of its schema: frames are written by it, and a stand-by reads by it
+abbrev pub table_sent : HubHistory → SchemaTable
+table_sent known = last_in (versions_of known.world) 0
 
 -- an export's result
 abbrev pub as_frames : Result (List ℕ) ExportFault → Result (List ℕ) FramesFault
@@ -34,11 +36,11 @@ as_frames (Ok bytes) = Ok bytes
 as_frames (Err (export.TooLong number)) = Err (TooLong number)
 as_frames (Err export.NoMemory) = Err NoMemory
 
--- The frames of the commits with numbers above this one; the broker does not keep those below its commit 0.
+-- The frames of the commits with numbers above this one, by the last version of the schema; the broker does not keep those below its commit 0.
 abbrev pub Sends : HubHistory → ℕ → ℕ → Result (List ℕ) FramesFault → Type 0
 Sends known base above (Err Gone) = above < base
 Sends known base above result =
-    (base ≤ above) × ((told : Result (List ℕ) ExportFault) × ExportsOn (table_now known) (committed known 0) (above + 1 - base) (above + 1) told × (result ≡ as_frames told))
+    (base ≤ above) × ((told : Result (List ℕ) ExportFault) × ExportsOn (table_sent known) (committed known 0) (above + 1 - base) (above + 1) told × (result ≡ as_frames told))
 
 -- the present version of its schema, as the script counts; the largest number if it has more than 32 bits
 abbrev pub present : Leader → ℕ

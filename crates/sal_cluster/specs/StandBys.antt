@@ -1,8 +1,6 @@
 -- A stand-by: a follower of domain 0 of a script, by the last version of its schema, that can become the leader.
-use Rattle.std.specs.Prelude.{◌≡◌, ◌⊎◌, ℕ, Bool, true, false, List, Option, Some, None, Result, Ok, Err, ⊤, codes}
-use Rattle.std.specs.Option.{is_some}
-use Rattle.sal_types.specs.declared.value.Store.{Store}
-use Rattle.sal_types.specs.declared.row.Row.{Row}
+use Rattle.std.specs.Prelude.{◌≡◌, ◌⊎◌, ℕ, true, false, List, ◌++◌, Option, Some, None, Result, Ok, Err, is_ok, ⊤, codes}
+use Rattle.std.specs.List.{All}
 use Rattle.sal_types.specs.Reading.{◌>>=◌}
 use Rattle.sal_history.specs.World.{Domain}
 use Rattle.sal_history.specs.declared.opening.Opening.{Opening}
@@ -10,7 +8,10 @@ use Rattle.sal_client.specs.Lists.{begun_with}
 use Rattle.sal_script.specs.Reading.{parts}
 use Rattle.sal_follow.specs.declared.fault.FollowFault.{FollowFault}
 use Rattle.sal_follow.specs.declared.fault.FollowFault.TheVariants as follow
+use Rattle.sal_follow.specs.Framed.{Trees, stream_of, streamed, too_long, AreTexts}
+use Rattle.sal_follow.specs.Laws.{AreFollowed, HoldsOneOf}
 use Rattle.sal_follow.specs.States.{Feeds, Following}
+use Rattle.sal_follow.specs.Stream.{fresh_at, followed}
 use Rattle.sal_prepare.specs.declared.resumed.Ground.{Ground}
 use Rattle.sal_prepare.specs.declared.status.Status.{Status}
 use Rattle.sal_prepare.specs.Resumed as spec
@@ -46,6 +47,14 @@ world_led ground f version = resumed ground.script.rules (parts ground.script).d
 abbrev pub Takes : List ℕ → Following → Following → Result ⊤ FollowFault → Type 0
 Takes piece old new (Ok done) = (v : Option ℕ) × Feeds piece old new (Ok v)
 Takes piece old new (Err fault) = Feeds piece old new (Err fault) ⊎ ((fault ≡ follow.NoMemory) × (new ≡ old))
+
+-- If the bytes so far, with the piece, are a prefix of a stream of a leader's commits by the stand-by's schema, it has no fault, and the leader's trees
+-- at its number, unless memory ran out. The stream begins with the number that the stand-by begins with.
+abbrev pub KeepsUp : List ℕ → Following → Following → Result ⊤ FollowFault → Type 0
+KeepsUp piece old new result =
+    (first : ℕ) (trees : List Trees) (before more : List ℕ) → All (AreFollowed old.schema) trees → AreTexts old.schema (stream_of first trees) → too_long old.schema (stream_of first trees) ≡ None
+    → old.held ≡ followed old.schema (fresh_at first) before → (before ++ piece) ++ more ≡ streamed old.schema first trees
+    → (result ≡ Err follow.NoMemory) ⊎ (HoldsOneOf first trees new.held × (is_ok result ≡ true))
 
 -- The leader of the stand-by's number: no step was made, and domain 0 opens with the stand-by's trees, by this version. Or there is no frame yet, the
 -- trees are no trees of this version, or the opening is refused with this status.

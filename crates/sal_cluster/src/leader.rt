@@ -1,9 +1,8 @@
 //! A broker whose commits have numbers in a stream.
 ghost use Rattle.std.specs.Prelude.{◌≡◌, ◌≤◌, ◌<◌, ◌+◌, ◌-◌, ◌^◌, [], IfOk, IfSome, SomeIff, length, min, nat_eq};
 ghost use Rattle.sal_hub.specs.Epochs.{OpensAtTheNewest, next_hub};
-ghost use Rattle.sal_hub.specs.HubHistory.{HubHistory};
-ghost use Rattle.sal_rows.specs.declared.clash.Rules.{Rules as Ruled};
-ghost use Rattle.sal_follow.specs.Framed.{IsSnapshot};
+ghost use Rattle.sal_follow.specs.Framed.{ExportsOn, IsSnapshot};
+ghost use Rattle.sal_resume.specs.Committed.{committed};
 ghost use Rattle.sal_resume.specs.Newest.{newest};
 ghost use Rattle.sal_prepare.specs.Scripted.{tables_in};
 ghost use Rattle.sal_history.specs.History.{newest_tree};
@@ -11,7 +10,7 @@ ghost use Rattle.sal_script.specs.Tables.{last_in, tables_of, versions_of};
 ghost use Rattle.sal_cluster.specs.Looks.{Looks};
 ghost use Rattle.sal_embed.specs.Opening.{IsBegun};
 ghost use Rattle.sal_hub.specs.Answers.{limit};
-ghost use Rattle.sal_cluster.specs.Leaders.{Begins, IsNext, Sends, epoch_fault, number_of, present, table_now, version_of};
+ghost use Rattle.sal_cluster.specs.Leaders.{Begins, IsNext, Sends, epoch_fault, number_of, present, table_sent, version_of};
 
 use crate::fault::{EpochFault, FramesFault, as_frames};
 use crate::look::{LookFault, look_in_tree};
@@ -20,7 +19,7 @@ use sal_epoch::next_hub;
 use sal_follow::{ExportFault, NextFrame};
 use sal_hub::{Hub, MAX_ENTRIES};
 use sal_prepare::laws::epochs_read_on;
-use sal_resume::{frames_on, snapshot_of_newest};
+use sal_resume::{own_frames, own_snapshot};
 use sal_rows::Rules;
 use sal_tree::tree_of;
 use sal_types::{Bytes, Store, Str};
@@ -58,24 +57,57 @@ impl Leader {
         MAX_ENTRIES.saturating_sub(self.broker.hub().log().len())
     }
 
-    /// The frames of the commits of domain 0 with numbers above this one: none if that of the newest is not greater.
+    /// The frames of the commits of domain 0 with numbers above this one, by the last version of its schema: none if that of the newest is not greater.
     pub fn frames(&self, alloc: Global, above: u64) -> Result<Bytes, FramesFault>
         ensures { Sends self.now.broker.hub self.now.base above result }
     {
         if above < self.base {
             return Err(FramesFault::Gone);
         }
-        frames_above(alloc, self.broker.hub(), self.base, above)
+        self.frames_above(alloc, above)
     }
 
-    /// The frame with all rows of the newest commit of domain 0: a stream may begin with it.
+    // The same above a number that is not below that of commit 0.
+    fn frames_above(&self, alloc: Global, above: u64) -> Result<Bytes, FramesFault>
+        requires { self.now.base ≤ above }
+        ensures { Sends self.now.broker.hub self.now.base above result }
+    {
+        match after(above) {
+            Some(number) => as_frames(self.frames_from(
+                alloc,
+                NextFrame {
+                    commit: number - self.base,
+                    number,
+                },
+            )),
+            None => past_all(alloc, self.broker.hub(), self.base, above),
+        }
+    }
+
+    // The frames from the next one on.
+    fn frames_from(&self, alloc: Global, next: NextFrame) -> Result<Bytes, ExportFault>
+        ensures { ExportsOn (table_sent self.now.broker.hub) (committed self.now.broker.hub 0) next.commit next.number result }
+    {
+        let schema = self.broker.readers().own().schema();
+        own_frames(alloc, schema, self.broker.hub(), next)
+    }
+
+    /// The frame with all rows of the newest commit of domain 0, by the last version of its schema: a stream may begin with it.
     pub fn snapshot(&self, alloc: Global) -> Result<Bytes, ExportFault>
-        ensures { IsSnapshot (table_now self.now.broker.hub) (number_of self.now.broker.hub self.now.base) (newest self.now.broker.hub 0) result }
+        ensures { IsSnapshot (table_sent self.now.broker.hub) (number_of self.now.broker.hub self.now.base) (newest self.now.broker.hub 0) result }
     {
         match self.number() {
-            Some(number) => newest_frame(alloc, self.broker.hub(), number),
+            Some(number) => self.newest_frame(alloc, number),
             None => Err(ExportFault::NoMemory),
         }
+    }
+
+    // The same with this number.
+    fn newest_frame(&self, alloc: Global, number: u64) -> Result<Bytes, ExportFault>
+        ensures { IsSnapshot (table_sent self.now.broker.hub) number (newest self.now.broker.hub 0) result }
+    {
+        let schema = self.broker.readers().own().schema();
+        own_snapshot(alloc, schema, self.broker.hub(), number)
     }
 
     /// The text of a read of the path in the newest tree of domain 0. It is no step: it adds nothing to the log or the report.
@@ -138,26 +170,6 @@ impl Leader {
     }
 }
 
-// The frames above a number, which is not below that of commit 0.
-fn frames_above(alloc: Global, hub: &Hub, base: u64, above: u64) -> Result<Bytes, FramesFault>
-    requires { base ≤ above }
-    ensures { Sends hub.now base above result }
-{
-    hub.stays_lawful();
-    match after(above) {
-        Some(number) => as_frames(frames_on(
-            alloc,
-            hub,
-            0,
-            NextFrame {
-                commit: number - base,
-                number,
-            },
-        )),
-        None => past_all(alloc, hub, base, above),
-    }
-}
-
 // The frames above the largest number: none, unless that of the newest commit has more than 64 bits.
 fn past_all(alloc: Global, hub: &Hub, base: u64, above: u64) -> Result<Bytes, FramesFault>
     requires { base ≤ above }
@@ -174,14 +186,6 @@ fn after(number: u64) -> Option<u64>
     ensures { IfSome result (λ next. next ≡ number + 1) }
 {
     number.checked_add(1)
-}
-
-// The frame with all rows of the newest commit, and this number.
-fn newest_frame(alloc: Global, hub: &Hub, number: u64) -> Result<Bytes, ExportFault>
-    ensures { IsSnapshot (table_now hub.now) number (newest hub.now 0) result }
-{
-    hub.stays_lawful();
-    snapshot_of_newest(alloc, hub, 0, number)
 }
 
 // The present version of the schema of domain 0, and the version rules.

@@ -12,7 +12,7 @@ ghost use Rattle.sal_follow.specs.Laws.{trees_held};
 ghost use Rattle.sal_follow.specs.Stream.{fresh_at, rows_held};
 ghost use Rattle.sal_prepare.specs.Resumed.{are_of_version, resumed};
 ghost use Rattle.sal_prepare.specs.Scripted as spec;
-ghost use Rattle.sal_cluster.specs.StandBys.{Leads, Takes, bare, grounded, seen};
+ghost use Rattle.sal_cluster.specs.StandBys.{KeepsUp, Leads, Takes, bare, grounded, seen};
 
 use crate::leader::Leader;
 use crate::look::{LookFault, look_in_rows};
@@ -81,6 +81,7 @@ impl StandBy {
     pub fn open(alloc: Global, script: &[u8], first: u64) -> Result<StandBy, Status>
         ensures ground { spec.Comes (λ it. seen it.ground) (grounded script.now) result }
         ensures fresh { IfOk result (λ it. it.follower.held ≡ fresh_at first) }
+        ensures schema { IfOk result (λ it. it.follower.schema ≡ last_in it.ground.readers 0) }
     {
         let ground = bare_ground(alloc, script)?;
         match before(alloc, &ground, first) {
@@ -95,6 +96,7 @@ impl StandBy {
     /// Takes the next piece of the stream. If memory runs out, nothing of it was taken.
     pub fn feed(&mut self, piece: &[u8]) -> Result<(), FollowFault>
         ensures taken { Takes piece.now self.old.follower self.new.follower result }
+        ensures leader { KeepsUp piece.now self.old.follower self.new.follower result }
         ensures ground { self.new.ground ≡ self.old.ground }
     {
         let Some(after) = self.fed.checked_add(piece.len() as u64) else {

@@ -1,5 +1,6 @@
 pub mod Bare
 pub mod Epoching
+pub mod Held
 pub mod Keeping
 pub mod Looking
 pub mod Owned

@@ -228,8 +228,7 @@ fn opening_of(config: &Rows, oper: &Rows) -> Result<Opening, NoMemory>
 
 // A follower by the last version of the schema of domain 0.
 fn before(alloc: Global, ground: &Ground, first: u64) -> Result<Follower, NoMemory>
-    ensures held { IfOk result (λ f. f.held ≡ fresh_at first) }
-    ensures schema { IfOk result (λ f. f.schema ≡ last_in ground.now.readers 0) }
+    ensures { IfOk result (λ f. f ≡ record { schema = last_in ground.now.readers 0; held = fresh_at first }) }
 {
     let schema = last_schema(ground)?;
     let patterns = patterns_by(alloc, &schema)?;

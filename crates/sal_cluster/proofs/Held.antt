@@ -20,7 +20,7 @@ exported P after (Err (TooLong number)) is e = cc
 exported P after (Err NoMemory) is e = cc
 
 sent : (known : HubHistory) (base k : ℕ) (after : List ℕ) → Sends known base (base + k) (Ok after) → ExportsOn (table_sent known) (committed known 0) (k + 1) (base + k + 1) (Ok after)
-sent known base k after (low, told, is, e) =
+sent known base k after (low, (told, is, e)) =
     let next : base + k + 1 - base ≡ k + 1 = omega arith in
     subst (λ (n : ℕ). ExportsOn (table_sent known) (committed known 0) n (base + k + 1) (Ok after)) next
     (exported (ExportsOn (table_sent known) (committed known 0) (base + k + 1 - base) (base + k + 1)) after told is e)

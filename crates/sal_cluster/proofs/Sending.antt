@@ -26,10 +26,10 @@ sends_none known base above low past =
     let all = long known in
     let none : frames_on trees k (above + 1) ≡ [] = none_after trees k (above + 1) (omega (arith, all, past, low)) in
     let exported : ExportsOn (table_sent known) trees k (above + 1) (Ok []) = subst (λ (fs : List Frame). AreExported (table_sent known) fs (Ok [])) (sym none) (refl, refl, tt) in
-    (low, Ok [], exported, refl)
+    (low, (Ok [], exported, refl))
 
 module _ (known : HubHistory) (base above : ℕ) (low : base ≤ above) where
   pub sends : (told : Result (List ℕ) ExportFault) → ExportsOn (table_sent known) (committed known 0) (above + 1 - base) (above + 1) told → Sends known base above (as_frames told)
-  sends (Ok bytes) is = (low, Ok bytes, is, refl)
-  sends (Err (TooLong number)) is = (low, Err (TooLong number), is, refl)
-  sends (Err NoMemory) is = (low, Err NoMemory, is, refl)
+  sends (Ok bytes) is = (low, (Ok bytes, is, refl))
+  sends (Err (TooLong number)) is = (low, (Err (TooLong number), is, refl))
+  sends (Err NoMemory) is = (low, (Err NoMemory, is, refl))

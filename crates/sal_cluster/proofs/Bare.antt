@@ -6,10 +6,17 @@ use Rattle.sal_script.specs.Moves.{Move}
 use Rattle.sal_prepare.specs.Resumed.{Ground, ground}
 use Rattle.sal_prepare.specs.Scripted.{Comes, IsStatusOf}
 use Rattle.sal_prepare.specs.declared.status.Status.{Status}
+use Rattle.sal_prepare.specs.declared.status.Status.TheVariants.{BadScript, NoMemory}
 use Rattle.sal_prepare.proofs.Each.{bind_fault}
 use Rattle.sal_embed.specs.Opening.{HasNone, IsBadAt, without}
-use Rattle.sal_embed.proofs.Opened.{bad_first}
 use Rattle.sal_cluster.specs.StandBys.{bare, grounded}
+
+-- the first member that a script may not have is the status
+bad_first : {X A : Type 0} (place : List ℕ) (xs : List X) (status : Status) → (xs ≡ [] → ⊥) → IsBadAt place status → (made : Result A Status) → IsStatusOf (without place xs made) status
+bad_first place [] status some bad made = absurd (some refl)
+bad_first place (x ∷ xs) NoMemory some bad made = tt
+bad_first place (x ∷ xs) (BadScript named) some bad made = ap (λ (p : List ℕ). Err (BadScript p)) (sym bad)
+bad_first place (x ∷ xs) status some bad made = absurd bad
 
 module _ (it : Ground) where
   -- a script with clients is refused

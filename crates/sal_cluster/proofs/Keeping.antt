@@ -24,5 +24,6 @@ keeps piece old new (Ok done) (v, feeds) first trees before more all texts short
       | inl wanting ↦ let no : (let r : Result (Option ℕ) FollowFault = Ok v in r) ≡ Err follow.NoMemory = wanting in cc
       | inr holds ↦ inr (holds.0, refl)
     ]
-keeps piece old new (Err fault) (inl feeds) = by_follower piece old new fault (keeps_up piece old new (Err fault) feeds)
+keeps piece old new (Err fault) (inl feeds) first trees before more all texts short came prefix =
+    by_follower piece old new fault (keeps_up piece old new (Err fault) feeds) first trees before more all texts short came prefix
 keeps piece old new (Err fault) (inr (is, same)) first trees before more all texts short came prefix = inl (ap (λ (f : FollowFault). let r : Result ⊤ FollowFault = Err f in r) is)

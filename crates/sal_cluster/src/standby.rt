@@ -232,7 +232,8 @@ fn before(alloc: Global, ground: &Ground, first: u64) -> Result<Follower, NoMemo
 {
     let schema = last_schema(ground)?;
     let patterns = patterns_by(alloc, &schema)?;
-    Follower::before(alloc, schema, patterns, first)
+    let follower = Follower::before(alloc, schema, patterns, first)?;
+    Ok(follower)
 }
 
 // The last version of the schema of domain 0, shared.

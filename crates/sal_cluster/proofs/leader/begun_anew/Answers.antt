@@ -5,6 +5,7 @@ use Rattle.std.specs.declared.alloc.Global.{Global}
 use Rattle.std.specs.declared.sync.Arc.{Arc}
 use Rattle.sal_schema.specs.declared.table.SchemaTable.{SchemaTable}
 use Rattle.sal_history.specs.World.{Domain, version_in}
+use Rattle.sal_hub.specs.Epochs.{OpensAtTheNewest}
 use Rattle.sal_hub.specs.HubHistory.{HubHistory}
 use Rattle.sal_script.specs.Tables.{tables_of, versions_of}
 use Rattle.sal_client.specs.Lists.{begun_with}
@@ -25,3 +26,6 @@ over-requires-clause-readers c =
     c.begin_with.ensures
     ∙ (λ i. begun_with (c.requires.past i) (c.requires.readers i))
     ∙ sym (c.epochs_read_on.ensures c.args.past.rules c.args.open.hub c.stays_lawful.ensures.only).0 ∙ ap (λ (h : HubHistory). versions_of h.world) (sym c.next_hub-next.ensures.next)
+
+pub returns-clause-newest : goal.returns-clause-newest
+returns-clause-newest c = subst (λ (h : HubHistory). OpensAtTheNewest c.args.open.hub h.world) (sym c.over.ensures.hub) c.next_hub-next.ensures.leader

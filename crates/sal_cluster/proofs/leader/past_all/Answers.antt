@@ -1,10 +1,13 @@
 -- There are no frames above the number.
-use Rattle.std.proofs.Common.{◌≡◌, ◌-◌, ◌≤◌, List, ℕ, Result, Ok, length, sym, ◌∙◌, subst, arith}
+use Rattle.std.proofs.Common.{◌≡◌, ◌-◌, ◌≤◌, List, ℕ, Result, Ok, Err, length, refl, sym, ◌∙◌, subst, arith}
 use Rattle.sal_history.specs.History.{commits, history}
-use Rattle.sal_cluster.specs.declared.fault.FramesFault.{FramesFault}
+use Rattle.sal_follow.specs.declared.fault.ExportFault.TheVariants.{NoMemory}
 use Rattle.sal_cluster.specs.Leaders.{Sends}
 use Rattle.sal_cluster.proofs.Sending.{sends_none}
 use Rattle.sal_cluster.proofs.leader.past_all.Goals as goal
+
+pub returns-then-newest-above : goal.returns-then-newest-above
+returns-then-newest-above c = (c.requires, (Err NoMemory, tt, refl))
 
 pub returns : goal.returns
 returns c =

@@ -2,5 +2,5 @@
 use Rattle.sal_cluster.proofs.Looking.{looked}
 use Rattle.sal_cluster.proofs.look.look_in_rows.Goals as goal
 
-pub returns-in-Ok : goal.returns-in-Ok
-returns-in-Ok c = looked _ _ _ _ _ _ _ c.in-Ok-text.ensures.cases.0 c.in-Ok.ensures c.told.ensures
+pub returns-in-Ok-rows_reply : goal.returns-in-Ok-rows_reply
+returns-in-Ok-rows_reply c = looked _ _ _ _ _ _ _ c.in-Ok.ensures.cases.0 c.in-Ok-rows_reply.ensures c.told.ensures

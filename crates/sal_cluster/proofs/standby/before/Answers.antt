@@ -1,5 +1,5 @@
 -- The schema is the last version.
-use Rattle.std.proofs.Common.{◌≡◌, IfOk, ap, sym, ◌∙◌, subst}
+use Rattle.std.proofs.Common.{◌≡◌, ap, ◌∙◌}
 use Rattle.sal_json.specs.Patterns.{patterns_of}
 use Rattle.sal_schema.specs.declared.table.SchemaTable.{SchemaTable}
 use Rattle.sal_follow.specs.States.{Following}
@@ -11,4 +11,5 @@ before-requires c = c.in_ok-patterns.ensures ∙ ap patterns_of c.deref.ensures
 
 pub returns : goal.returns
 returns c =
-    subst (λ (t : SchemaTable). IfOk c.before.result (λ (f : Following). f ≡ record { schema = t; held = fresh_at c.args.first })) c.in_ok-schema.ensures c.before.ensures
+    let by : SchemaTable → Following = λ t. record { schema = t; held = fresh_at c.args.first } in
+    c.in_ok-follower.ensures ∙ ap by c.in_ok-schema.ensures

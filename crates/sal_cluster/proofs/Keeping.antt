@@ -1,10 +1,10 @@
 -- A stand-by keeps up with its leader, as its follower does.
-use Rattle.std.proofs.Common.{◌≡◌, ◌⊎◌, ℕ, true, inl, inr, List, Option, Result, Ok, Err, refl, ap}
+use Rattle.std.proofs.Common.{◌≡◌, ℕ, inl, inr, List, Option, Result, Ok, Err, refl, ap}
 use Rattle.std.specs.Prelude.{⊤}
 use Rattle.sal_follow.specs.declared.fault.FollowFault.{FollowFault}
 use Rattle.sal_follow.specs.declared.fault.FollowFault.TheVariants as follow
 use Rattle.sal_follow.specs.Leader as of_follower
-use Rattle.sal_follow.specs.States.{Feeds, Following}
+use Rattle.sal_follow.specs.States.{Following}
 use Rattle.sal_follow.proofs.KeepingUp.{keeps_up}
 use Rattle.sal_cluster.specs.StandBys.{KeepsUp, Takes}
 

@@ -1,5 +1,5 @@
 //! A broker whose commits have numbers in a stream.
-ghost use Rattle.std.specs.Prelude.{◌≡◌, ◌≤◌, ◌<◌, ◌+◌, ◌-◌, ◌^◌, [], IfOk, IfSome, SomeIff, length, min, nat_eq};
+ghost use Rattle.std.specs.Prelude.{◌≡◌, ◌≤◌, ◌<◌, ◌+◌, ◌-◌, ◌^◌, IfSome, SomeIff, length, min, nat_eq};
 ghost use Rattle.sal_hub.specs.Epochs.{OpensAtTheNewest, next_hub};
 ghost use Rattle.sal_follow.specs.Framed.{ExportsOn, IsSnapshot};
 ghost use Rattle.sal_resume.specs.Committed.{committed};

@@ -1,5 +1,5 @@
 -- There are no frames above the number.
-use Rattle.std.proofs.Common.{◌≡◌, ◌-◌, ◌≤◌, List, ℕ, Result, Ok, Err, length, refl, sym, ◌∙◌, subst, arith}
+use Rattle.std.proofs.Common.{◌-◌, ◌≤◌, List, ℕ, Ok, Err, length, refl, sym, ◌∙◌, subst, arith}
 use Rattle.sal_history.specs.History.{commits, history}
 use Rattle.sal_follow.specs.declared.fault.ExportFault.TheVariants.{NoMemory}
 use Rattle.sal_cluster.specs.Leaders.{Sends}

@@ -1,5 +1,5 @@
 -- The version of domain 0.
-use Rattle.std.proofs.Common.{◌≡◌, ◌<◌, length, ◌∙◌, arith}
+use Rattle.std.proofs.Common.{◌<◌, length, ◌∙◌, arith}
 use Rattle.sal_hub.proofs.Upgrading.{own_number}
 use Rattle.sal_cluster.specs.Leaders.{version_of}
 use Rattle.sal_cluster.proofs.leader.past_of.Goals as goal

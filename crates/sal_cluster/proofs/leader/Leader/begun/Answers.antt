@@ -1,5 +1,5 @@
 -- Everything but the number is that of the next broker.
-use Rattle.std.proofs.Common.{◌≡◌, ap, sym, ◌∙◌, subst}
+use Rattle.std.proofs.Common.{ap, sym, ◌∙◌, subst}
 use Rattle.sal_hub.specs.Epochs.{OpensAtTheNewest, next_hub}
 use Rattle.sal_hub.specs.HubHistory.{HubHistory}
 use Rattle.sal_script.specs.Tables.{tables_of, versions_of}

@@ -1,5 +1,5 @@
 -- The commit of a number is that many after commit 0.
-use Rattle.std.proofs.Common.{◌≡◌, ℕ, ◌-◌, List, Result, sym, subst}
+use Rattle.std.proofs.Common.{ℕ, ◌-◌, List, Result, sym, subst}
 use Rattle.sal_follow.specs.Framed.{ExportsOn}
 use Rattle.sal_hub.specs.HubHistory.{HubHistory}
 use Rattle.sal_resume.specs.Committed.{committed}

@@ -1,5 +1,5 @@
 -- The number is counted from that of commit 0.
-use Rattle.std.proofs.Common.{◌≡◌, ℕ, ◌-◌, ◌<◌, ap, sym, ◌∙◌, arith}
+use Rattle.std.proofs.Common.{◌<◌, ap, ◌∙◌, arith}
 use Rattle.std.specs.Prelude.{nat_eq}
 use Rattle.sal_hub.specs.HubHistory.{HubHistory}
 use Rattle.sal_history.specs.History.{commits, history}

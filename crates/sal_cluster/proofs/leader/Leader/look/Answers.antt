@@ -1,6 +1,5 @@
 -- The tables and the tree are those of the hub.
 use Rattle.std.proofs.Common.{◌≡◌, List, ap, ◌∙◌}
-use Rattle.sal_schema.specs.declared.table.SchemaTable.{SchemaTable}
 use Rattle.sal_tree.specs.Rows.{rows_of}
 use Rattle.sal_history.specs.History.{newest_tree}
 use Rattle.sal_hub.specs.HubHistory.{HubHistory}

@@ -1,0 +1,11 @@
+-- The number is that of the newest commit.
+use Rattle.std.proofs.Common.{ℕ, subst}
+use Rattle.sal_follow.specs.Framed.{IsSnapshot}
+use Rattle.sal_resume.specs.Newest.{newest}
+use Rattle.sal_cluster.specs.Leaders.{table_sent}
+use Rattle.sal_cluster.proofs.leader.Leader.snapshot.Goals as goal
+
+pub returns-in-Some : goal.returns-in-Some
+returns-in-Some c =
+    let h = c.args.self.now.broker.hub in
+    subst (λ (n : ℕ). IsSnapshot (table_sent h) n (newest h 0) c.newest_frame.result) c.in-Some.ensures.1 c.newest_frame.ensures

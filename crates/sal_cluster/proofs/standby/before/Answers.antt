@@ -1,0 +1,15 @@
+-- The schema is the last version.
+use Rattle.std.proofs.Common.{ap, ◌∙◌}
+use Rattle.sal_json.specs.Patterns.{patterns_of}
+use Rattle.sal_schema.specs.declared.table.SchemaTable.{SchemaTable}
+use Rattle.sal_follow.specs.States.{Following}
+use Rattle.sal_follow.specs.Stream.{fresh_at}
+use Rattle.sal_cluster.proofs.standby.before.Goals as goal
+
+pub before-requires : goal.before-requires
+before-requires c = c.in_ok-patterns.ensures ∙ ap patterns_of c.deref.ensures
+
+pub returns : goal.returns
+returns c =
+    let by : SchemaTable → Following = λ t. record { schema = t; held = fresh_at c.args.first } in
+    c.in_ok-follower.ensures ∙ ap by c.in_ok-schema.ensures

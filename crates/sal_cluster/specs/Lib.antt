@@ -1,0 +1,4 @@
+pub mod Laws
+pub mod Leaders
+pub mod Looks
+pub mod StandBys

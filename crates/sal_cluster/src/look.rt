@@ -1,0 +1,131 @@
+//! A read in a newest tree, without a step.
+ghost use Rattle.std.specs.Prelude.{◌≡◌, IfOk, MatchResult};
+ghost use Rattle.sal_tree.specs.Rows.{rows_of};
+ghost use Rattle.sal_pathtext.specs.Read.{read_path};
+ghost use Rattle.sal_prepare.specs.Scripted.{tables_in};
+ghost use Rattle.sal_script.specs.Report.{reply_text};
+ghost use Rattle.sal_script.specs.declared.reply.StepReply.TheVariants.{Read, Refused};
+ghost use Rattle.sal_script.specs.declared.reply.StepRefusal.TheVariants.{BadPath};
+ghost use Rattle.sal_cluster.specs.Looks.{Looks, reply_of};
+ghost use Rattle.sal_cluster.specs.declared.look.LookFault.TheVariants.{NoMemory as NoText};
+
+use sal_client::Reader;
+use sal_pathtext::PathTextFault;
+use sal_report::reply_text;
+use sal_rows::Rows;
+use sal_schema::Schema;
+use sal_script::{StepRefusal, StepReply};
+use sal_tree::Root;
+use sal_types::{NoMemory, Path, Str};
+use std::alloc::Global;
+use std::sync::Arc;
+
+/// Why a read has no text.
+#[derive(Clone, Copy, Debug, PartialEq, Eq)]
+pub enum LookFault {
+    /// The bytes of the path are no UTF-8.
+    BadText,
+    NoMemory,
+}
+
+/// The text of a read of the path in a tree.
+pub(crate) fn look_in_tree(
+    alloc: Global,
+    reader: &Reader,
+    schemas: &[Arc<Schema>],
+    tree: &Root,
+    path: &[u8],
+) -> Result<Str, LookFault>
+    ensures { Looks (tables_in schemas.now) reader.now (rows_of tree.now) path.now result }
+{
+    let Ok(text) = str::from_utf8(path) else {
+        return Err(LookFault::BadText);
+    };
+    match tree_reply(alloc, reader, tree, text) {
+        Ok(reply) => told(alloc, schemas, &reply),
+        Err(NoMemory) => Err(LookFault::NoMemory),
+    }
+}
+
+/// The same in rows.
+pub(crate) fn look_in_rows(
+    alloc: Global,
+    reader: &Reader,
+    schemas: &[Arc<Schema>],
+    rows: &Rows,
+    path: &[u8],
+) -> Result<Str, LookFault>
+    ensures { Looks (tables_in schemas.now) reader.now rows.now path.now result }
+{
+    let Ok(text) = str::from_utf8(path) else {
+        return Err(LookFault::BadText);
+    };
+    match rows_reply(alloc, reader, rows, text) {
+        Ok(reply) => told(alloc, schemas, &reply),
+        Err(NoMemory) => Err(LookFault::NoMemory),
+    }
+}
+
+// The text of a reply.
+fn told(alloc: Global, schemas: &[Arc<Schema>], reply: &StepReply) -> Result<Str, LookFault>
+    ensures { MatchResult result (λ text. text ≡ reply_text (tables_in schemas.now) reply.now) (λ fault. fault ≡ NoText) }
+{
+    match reply_text(alloc, schemas, reply) {
+        Ok(text) => Ok(text),
+        Err(NoMemory) => Err(LookFault::NoMemory),
+    }
+}
+
+fn tree_reply(
+    alloc: Global,
+    reader: &Reader,
+    tree: &Root,
+    text: &str,
+) -> Result<StepReply, NoMemory>
+    ensures { IfOk result (λ reply. reply ≡ reply_of (rows_of tree.now) (read_path reader.now text.now)) }
+{
+    match reader.path(alloc, text) {
+        Ok(path) => {
+            let rows = tree.rows(alloc, &path)?;
+            Ok(read(path, rows))
+        }
+        Err(PathTextFault::NoMemory) => Err(NoMemory),
+        Err(fault) => Ok(refused(fault)),
+    }
+}
+
+fn rows_reply(
+    alloc: Global,
+    reader: &Reader,
+    rows: &Rows,
+    text: &str,
+) -> Result<StepReply, NoMemory>
+    ensures { IfOk result (λ reply. reply ≡ reply_of rows.now (read_path reader.now text.now)) }
+{
+    match reader.path(alloc, text) {
+        Ok(path) => {
+            let below = rows.under(&path)?;
+            Ok(read(path, below))
+        }
+        Err(PathTextFault::NoMemory) => Err(NoMemory),
+        Err(fault) => Ok(refused(fault)),
+    }
+}
+
+fn read(path: Path, rows: Rows) -> StepReply
+    ensures { result ≡ Read 0 path rows }
+{
+    StepReply::Read {
+        domain: 0,
+        path,
+        rows,
+    }
+}
+
+fn refused(fault: PathTextFault) -> StepReply
+    ensures { result ≡ Refused (BadPath fault) }
+{
+    StepReply::Refused {
+        refusal: StepRefusal::BadPath { fault },
+    }
+}

@@ -41,7 +41,7 @@ opening_held f = record { config = f.held.config; oper = f.held.oper }
 
 -- the world of the script that goes on with these trees by this version
 abbrev pub world_led : Ground → Following → ℕ → Result (List Domain) Status
-world_led ground f version = resumed ground.script.rules (parts ground.script).devices (begun_with version ground.readers) (opening_held f)
+world_led it f version = resumed it.script.rules (parts it.script).devices (begun_with version it.readers) (opening_held f)
 
 -- the effect of a piece, without the follower's number
 abbrev pub Takes : List ℕ → Following → Following → Result ⊤ FollowFault → Type 0
@@ -59,8 +59,8 @@ KeepsUp piece old new result =
 -- The leader of the stand-by's number: no step was made, and domain 0 opens with the stand-by's trees, by this version. Or there is no frame yet, the
 -- trees are no trees of this version, or the opening is refused with this status.
 abbrev pub Leads : Ground → Following → ℕ → Result Leader LeadFault → Type 0
-Leads ground f version (Ok it) =
-    (f.held.version ≡ Some it.base) × (it.version ≡ version) × (world_led ground f version ≡ Ok it.broker.hub.world) × IsBegun it.broker
-Leads ground f version (Err Empty) = f.held.version ≡ None
-Leads ground f version (Err BadVersion) = are_of_version ground.readers version (opening_held f) ≡ false
-Leads ground f version (Err (Refused status)) = IsStatusOf (world_led ground f version) status
+Leads script f version (Ok it) =
+    (f.held.version ≡ Some it.base) × (it.version ≡ version) × (world_led script f version ≡ Ok it.broker.hub.world) × IsBegun it.broker
+Leads script f version (Err Empty) = f.held.version ≡ None
+Leads script f version (Err BadVersion) = are_of_version script.readers version (opening_held f) ≡ false
+Leads script f version (Err (Refused status)) = IsStatusOf (world_led script f version) status

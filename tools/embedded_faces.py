@@ -1,11 +1,31 @@
 """The tests of tools/embed for the Python module and for an installed library, beside those of embedded.py: each takes the library's folder and a folder
 for its output."""
 import os
+import re
 import shutil
 import subprocess
 import sys
 
-from embedded import EMBED, Absent, Differs, example, library, needed, ran
+from embedded import EMBED, Absent, Differs, example, library, needed, ran, same
+from kit import ROOT
+
+
+# ---- the controller of docs/EMBEDDING.md
+
+def controller(folder, room, is_wrong=False):
+    """Runs the program whose lines docs/EMBEDDING.md shows, and looks for them in it."""
+    env = {**os.environ, "MDSAL_LIBRARY": f"{folder}/libmdsal.so", "PYTHONDONTWRITEBYTECODE": "1"}
+    told = ran(["python3", f"{EMBED}/python/controller.py", f"{room}/controller-frames"], env=env)
+    with open(f"{EMBED}/controller.txt", encoding="utf-8") as file:
+        same("what embed/python/controller.py prints", told, file.read().replace("hall", "hull") if is_wrong else file.read())
+    with open(f"{EMBED}/python/controller.py", encoding="utf-8") as file:
+        lines = {it.strip() for it in file}
+    with open(f"{ROOT}/docs/EMBEDDING.md", encoding="utf-8") as file:
+        shown = [it.strip() for block in re.findall(r"```python\n(.*?)```", file.read(), re.S) for it in block.splitlines() if it.strip()]
+    absent = [it for it in shown if re.sub(r"\s+#.*", "", it) not in {re.sub(r"\s+#.*", "", line) for line in lines}]
+    if absent or not shown:
+        raise Differs(f"docs/EMBEDDING.md shows {absent}, which embed/python/controller.py does not have")
+    return f"Python: the controller prints what embed/controller.txt has, and has the {len(shown)} lines of docs/EMBEDDING.md"
 
 
 # ---- an installed library
@@ -80,7 +100,18 @@ def typed(folder, room, is_wrong=False):
                 raise Differs(f"the step {step} has the reply {told}, and should have {wanted}")
             count += 1
         count += updated(mdsal, broker)
+        batch(mdsal, broker)
     return f"Python: {count} replies with their fields, refusals as exceptions, updates after a conflict"
+
+
+def batch(mdsal, broker):
+    """Steps in one call: all replies, or those before the one that is not made."""
+    same("a batch", broker.steps(9, [["mark", 9], '["after",9]']), ["ok", "found"])
+    try:
+        told = broker.steps(9, [["after", 9], ["no-step"], ["mark", 9]])
+    except mdsal.BadStep as why:
+        told = why.replies
+    same("a batch with a step that is none", told, ["found"])
 
 
 def updated(mdsal, broker):

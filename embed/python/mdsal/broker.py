@@ -2,10 +2,12 @@
 from __future__ import annotations
 
 import contextlib
+import ctypes
+import threading
 from typing import Any, Callable, Iterable, TypeVar
 
 from .errors import BadClient, Error
-from .library import Session, bytes_of
+from .library import Handle, Session, bytes_of, number
 from .replies import Conflict, Data, Done, Outcome, Reply, Truth, reply_of
 
 CLIENTS = 65536
@@ -40,12 +42,39 @@ class Broker(Session):
         return self._call(f"client {client}: {text.decode(errors='replace')}", "step", client, text, len(text)).decode()
 
     def steps(self, client: int, steps: Iterable[Any]) -> list[str]:
-        """Makes the steps of a client in turn, and returns the texts of their replies. A step that is not made ends it by its exception."""
-        return [self.step(client, it) for it in steps]
+        """Makes the steps of a client in turn, and returns the texts of their replies. A step that is not made ends it by its exception, whose `replies`
+        are those before it."""
+        told: list[str] = []
+        for it in steps:
+            try:
+                told.append(self.step(client, it))
+            except Error as why:
+                why.replies = told
+                raise
+        return told
 
     def call(self, client: int, step: Any) -> Reply:
         """Makes the client's next step, and returns its reply with its fields. A refused step raises an exception of `mdsal.refusals`."""
         return reply_of(self.step(client, step))
+
+    def frames(self, above: int) -> bytes:
+        """Returns the frames of the commits of the controller's own domain with numbers above this one, in order."""
+        return self._call(f"frames above {above}", "frames", number(above, 64))
+
+    def epoch(self, newest: int) -> None:
+        """Begins the next epoch, if nothing is pending and the newest commit has this number: then the caller has its frame. The trees stay; the log,
+        the report, and what clients had end."""
+        self._call(f"epoch at {newest}", "epoch", number(newest, 64))
+
+    @property
+    def version(self) -> int:
+        """The present version of the schema, as the script counts: keep it beside the frames, for `StandBy.lead`."""
+        return self._number("version")
+
+    @property
+    def left(self) -> int:
+        """How many shared calls the log has room for."""
+        return self._number("left")
 
     def report(self) -> str:
         """Returns the report of all steps so far, as `mdsal sim` writes it."""
@@ -68,6 +97,31 @@ class Broker(Session):
                 return kept
             if not isinstance(outcome, Conflict):
                 raise NotCommitted(outcome)
+
+
+class StandBy(Session):
+    """A stand-by of the broker of a script. Its stream begins with the frame of the number `first`, which has all rows: a snapshot."""
+
+    def __init__(self, script: Any, first: int = 0, library: str | None = None):
+        super().__init__(library)
+        text = bytes_of(script)
+        self._call("follow", "follow", text, len(text), number(first, 64))
+
+    def __enter__(self) -> StandBy:
+        return self
+
+    def feed(self, piece: bytes) -> None:
+        """Takes the next bytes of the stream, cut anywhere."""
+        self._call("feed", "feed", piece, len(piece))
+
+    def lead(self, version: int = 0) -> Broker:
+        """Returns the broker that it becomes, by this version of the schema; this object is closed then. Else it stays as it is."""
+        with self._lock:
+            self._call(f"lead by version {version}", "lead", number(version, 32))
+            broker = Broker.__new__(Broker)
+            broker._library, broker._lock, broker._room = self._library, threading.RLock(), self._room
+            broker._handle, self._handle, self._room = self._handle, Handle(), ctypes.create_string_buffer(4096)
+        return broker
 
 
 class Transaction:

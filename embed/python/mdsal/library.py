@@ -6,6 +6,7 @@ import threading
 from typing import Any
 
 from .errors import fault_of
+from .replies import Data, reply_of
 
 U32, U64, SIZE, TEXT = ctypes.c_uint32, ctypes.c_uint64, ctypes.c_size_t, ctypes.c_char_p
 # The calls, with their arguments behind the handle, and their result.
@@ -14,8 +15,21 @@ CALLS = (
     ("step", [U32, TEXT, SIZE], U32),
     ("reply", [TEXT, SIZE], SIZE),
     ("report", [], U32),
+    ("frames", [U64], U32),
+    ("snapshot", [], U32),
+    ("epoch", [U64], U32),
+    ("follow", [TEXT, SIZE, U64], U32),
+    ("feed", [TEXT, SIZE], U32),
+    ("lead", [U32], U32),
+    ("look", [U32, TEXT, SIZE], U32),
+    ("number", [], U64),
+    ("version", [], U32),
+    ("left", [], SIZE),
     ("close", [], None),
 )
+# The statuses that have a line.
+LINES = (6, 7, 8, 10, 12, 13)
+STORES = {"config": 0, "operational": 1}
 
 
 class Handle(ctypes.Structure):
@@ -41,6 +55,13 @@ def bytes_of(what: Any) -> bytes:
     if isinstance(what, (bytes, bytearray)):
         return bytes(what)
     return (what if isinstance(what, str) else json.dumps(what)).encode()
+
+
+def number(it: int, bits: int) -> int:
+    """Returns the number, if it has no more bits: `ctypes` would take others for another one."""
+    if not 0 <= it < 1 << bits:
+        raise OverflowError(f"{it} is no number of {bits} bits")
+    return it
 
 
 class Session:
@@ -72,13 +93,29 @@ class Session:
             raise fault_of(status, text.decode() or what)
         return text
 
+    def _number(self, name: str) -> int:
+        with self._lock:
+            return getattr(self._library, f"mdsal_{name}")(self._handle)
+
+    def look(self, store: str, path: str) -> Any:
+        """Returns what is at the path in the newest tree, or `None` if there is nothing. It is no step, and adds nothing to the log."""
+        text = path.encode()
+        it = reply_of(self._call(f"look at {path}", "look", STORES[store], text, len(text)).decode())
+        assert isinstance(it, Data)
+        return it.value
+
+    def snapshot(self) -> bytes:
+        """Returns one frame with all rows: that of the newest commit. A stream may begin with it."""
+        return self._call("snapshot", "snapshot")
+
+    @property
+    def number(self) -> int:
+        """The number of the newest commit, or of the last frame; 0 if there is none."""
+        return self._number("number")
+
     def _reply(self) -> bytes:
         while True:
             length = self._library.mdsal_reply(self._handle, self._room, len(self._room))
             if length <= len(self._room):
                 return ctypes.string_at(self._room, length)
             self._room = ctypes.create_string_buffer(2 * length)
-
-
-# The statuses with a line.
-LINES = (6, 7, 8, 10)

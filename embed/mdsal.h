@@ -11,6 +11,15 @@
 **     n = mdsal_reply(&broker, out, sizeof out);                          "begun 0"
 **     mdsal_close(&broker);
 **
+** Each commit of the controller's own domain is a frame (docs/FORMATS.md, "Frames"), which the program may keep in a file or send. A stand-by
+** takes such frames, and can become the broker: after a restart, or when another process has failed. An epoch begins anew with an empty log, so
+** a broker may run without end.
+**
+**     mdsal_frames(&broker, sent), n = mdsal_reply(&broker, out, sizeof out);    the frames above the number `sent`: append them to a file
+**     mdsal_epoch(&broker, mdsal_number(&broker));                                if all frames are in the file
+**     mdsal_follow(&standby, script, script_len, first);                          after a restart: feed what the file has, and lead
+**     mdsal_feed(&standby, bytes, n), mdsal_lead(&standby, version);
+**
 ** docs/EMBEDDING.md says which properties of the results are proved and which are only tested. The duties of a caller, below, are not checked.
 **
 ** DUTIES OF A CALLER, at each call
@@ -40,7 +49,7 @@ extern "C" {
 #define MDSAL_VERSION "0.1.0"
 
 /*
-** A broker, and the text of its last call. Initialize it to zeros, which is a closed handle: `mdsal broker = {0};`. The fields are private.
+** A broker or a stand-by, and the text of its last call. Initialize it to zeros, which is a closed handle: `mdsal broker = {0};`. The fields are private.
 */
 typedef struct mdsal {
     bool full;
@@ -62,14 +71,22 @@ enum {
     MDSAL_BAD_SCHEMA = 7,   /* open: the modules do not give a schema; the text has the first fault */
     MDSAL_BAD_OPENING = 8,  /* open: an opening tree is not data of the schema, or breaks a rule; the text has the first fault */
     MDSAL_NO_MEMORY = 10,   /* memory ran out; see each function */
-    MDSAL_NOT_OPEN = 21,    /* step, report: no broker is open */
-    MDSAL_IS_OPEN = 22,     /* open: a broker is open, and stays open */
-    MDSAL_BAD_STEP = 23,    /* step: the bytes are not a step */
+    MDSAL_BAD_STREAM = 12,  /* feed: the bytes are not the next frames; the text names the fault */
+    MDSAL_BAD_EXPORT = 13,  /* frames, snapshot: the text of a frame has more than 16,777,216 bytes; the text has its number */
+    MDSAL_NOT_OPEN = 21,    /* the handle has neither a broker nor a stand-by */
+    MDSAL_IS_OPEN = 22,     /* open, follow: the handle has one already, which stays; feed, lead: it has a broker */
+    MDSAL_BAD_STEP = 23,    /* step: the bytes are not a step; look: they are not UTF-8, or there is no such store */
     MDSAL_BAD_CLIENT = 24,  /* step: the client's number is MDSAL_CLIENTS or more */
     MDSAL_FULL = 25,        /* step: the log has 1,000,000 shared calls, and the step needs one more */
     MDSAL_LOST = 26,        /* step: memory ran out in an earlier step of this client, and it can make no more steps */
     MDSAL_UNTOLD = 27,      /* step: it was made, but memory ran out for the text of its reply; mdsal_report has it */
-    MDSAL_BROKEN = 28       /* step: memory ran out after a call was added to the log; the broker is closed */
+    MDSAL_BROKEN = 28,      /* step: memory ran out after a call was added to the log; the broker is closed */
+    MDSAL_IS_STANDBY = 29,  /* step, report, frames, epoch: the handle has a stand-by */
+    MDSAL_GONE = 30,        /* frames: the broker does not keep commits of numbers that low; they belong to an earlier epoch */
+    MDSAL_PENDING = 31,     /* epoch: a submission is not decided */
+    MDSAL_NOT_NEWEST = 32,  /* epoch: the newest commit has another number */
+    MDSAL_EMPTY = 33,       /* lead, look, snapshot: the stand-by has no frame yet */
+    MDSAL_BAD_VERSION = 34  /* lead: the script has no such version, or the trees are not trees of it */
 };
 
 /*
@@ -102,7 +119,7 @@ uint32_t mdsal_open(mdsal *handle, const uint8_t *script, size_t length);
 uint32_t mdsal_step(mdsal *handle, uint32_t client, const uint8_t *step, size_t length);
 
 /*
-** Copies the text of the last open, step or report to `out`, at most `room` bytes, and returns the whole length of the text. Bytes of
+** Copies the text of the last call that has one to `out`, at most `room` bytes, and returns the whole length of the text. Bytes of
 ** `out` after the copy are not written. If `room` was too small, call it again: nothing changes. The text is UTF-8, without a zero at the
 ** end. A handle without a text returns 0.
 */
@@ -120,7 +137,98 @@ size_t mdsal_reply(mdsal *handle, uint8_t *out, size_t room);
 uint32_t mdsal_report(mdsal *handle);
 
 /*
-** Frees the broker and the text. The handle is zeros again, and may be opened again. On a closed handle it does nothing.
+** Makes a text of frames: those of the commits of the controller's own domain with numbers above `above`, in order, none if there are none.
+** Numbers of frames go on over epochs, and from a leader to the stand-by that follows it; the numbers in replies begin again.
+**
+**   MDSAL_OK            The text is the frames. If there is a frame for each number from `above` + 1 on, the stream has no gap.
+**   MDSAL_GONE          `above` is below the number of the commit that this epoch began with.
+**   MDSAL_BAD_EXPORT    The text is the line "bad export NUMBER" of the first commit whose frame is too long, with a line feed; no frame is given.
+**   MDSAL_NO_MEMORY, MDSAL_NOT_OPEN, MDSAL_IS_STANDBY
+**                       The text is empty.
+**
+** The broker is unchanged in each case.
+*/
+uint32_t mdsal_frames(mdsal *handle, uint64_t above);
+
+/*
+** Makes a text of one frame: that of the newest commit of a broker, or of a stand-by's last frame, with all rows. A stream may begin with it.
+**
+**   MDSAL_OK, MDSAL_BAD_EXPORT, MDSAL_NO_MEMORY, MDSAL_NOT_OPEN    as for mdsal_frames
+**   MDSAL_EMPTY                                                    the stand-by has no frame yet
+*/
+uint32_t mdsal_snapshot(mdsal *handle);
+
+/*
+** Begins the next epoch of a broker, if no submission is pending and `newest` is the number of the newest commit: then the caller has its frame.
+** It has the newest trees of all domains, and the log and the report are empty. What clients had ends: transactions, receipts, chains, listeners, providers,
+** subscriptions, mounts, marks. It takes no memory.
+**
+**   MDSAL_OK            The next epoch began.
+**   MDSAL_PENDING       A submission is not decided: settle or pump, and try again.
+**   MDSAL_NOT_NEWEST    The newest commit has another number: take its frames, and try again.
+**   MDSAL_NOT_OPEN, MDSAL_IS_STANDBY
+**
+** Nothing but the text, which is empty, is changed by a refusal.
+*/
+uint32_t mdsal_epoch(mdsal *handle, uint64_t newest);
+
+/*
+** Opens a stand-by of the broker of a script: it takes a stream of frames that begins with the frame of the number `first`, in which all rows are: the
+** text of mdsal_snapshot at any time, also directly after mdsal_open, with the number 0. The statuses are those of mdsal_open; the opening trees of
+** the script are not read. The script must be that of the broker that made the frames.
+*/
+uint32_t mdsal_follow(mdsal *handle, const uint8_t *script, size_t length, uint64_t first);
+
+/*
+** Feeds a stand-by with the next bytes of its stream, cut anywhere.
+**
+**   MDSAL_OK            They were taken; an unfinished frame waits for its end.
+**   MDSAL_BAD_STREAM    The text is the line of the stream's first fault, with a line feed: "bad stream bad-frame AT", the bytes of the stream
+**                       from AT on are no frame; "bad stream gap WANT GOT", a frame has another number than the next. The stand-by has its last
+**                       good frame, and answers so from then on; it may still lead.
+**   MDSAL_NO_MEMORY     Nothing of the bytes was taken.
+**   MDSAL_NOT_OPEN, MDSAL_IS_OPEN
+*/
+uint32_t mdsal_feed(mdsal *handle, const uint8_t *bytes, size_t length);
+
+/*
+** Makes a stand-by the broker, by this version of the schema, as the script counts: mdsal_version of the broker that made the last frame. Its
+** domain begins with the stand-by's trees, and frame numbers go on. An unfinished frame is left out. Devices begin as the script has them.
+**
+**   MDSAL_OK            The handle has the broker, before any step.
+**   MDSAL_EMPTY, MDSAL_BAD_VERSION, MDSAL_NOT_OPEN, MDSAL_IS_OPEN
+**                       Nothing but the text, which is empty, is changed: the stand-by stays.
+**   MDSAL_BAD_OPENING, MDSAL_NO_MEMORY
+**                       The same, and the text is the line of the command's status, if memory did not run out for it.
+*/
+uint32_t mdsal_lead(mdsal *handle, uint32_t version);
+
+/*
+** Makes the text of a read in the newest tree of the controller's own domain, of a broker or a stand-by: "data JSON", "absent" or "refused path
+** FAULT". Store 0 is the configuration, 1 the operational one. It is no step: it adds nothing to the log or the report, so a program may look as
+** often as it likes.
+**
+**   MDSAL_OK, MDSAL_BAD_STEP, MDSAL_EMPTY, MDSAL_NO_MEMORY, MDSAL_NOT_OPEN    nothing but the text is changed
+*/
+uint32_t mdsal_look(mdsal *handle, uint32_t store, const uint8_t *path, size_t length);
+
+/*
+** The number of a broker's newest commit, or of a stand-by's last frame; 0 if there is none. The text stays.
+*/
+uint64_t mdsal_number(mdsal *handle);
+
+/*
+** The present version of a broker's schema, as the script counts: keep it beside the frames, for the next mdsal_lead. Else 0. The text stays.
+*/
+uint32_t mdsal_version(mdsal *handle);
+
+/*
+** How many shared calls a broker's log has room for: at 0, steps answer MDSAL_FULL, and a new epoch is due. Else 0. The text stays.
+*/
+size_t mdsal_left(mdsal *handle);
+
+/*
+** Frees the broker or the stand-by, and the text. The handle is zeros again, and may be opened again. On a closed handle it does nothing.
 */
 void mdsal_close(mdsal *handle);
 

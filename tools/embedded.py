@@ -49,6 +49,11 @@ def ran(words, **how):
     return done.stdout
 
 
+def same(what, told, wanted):
+    if told != wanted:
+        raise Differs(f"{what}: {told!r}, and should be {wanted!r}")
+
+
 def compiled(source, folder, room, flags=("-O2",), compiler="gcc"):
     """Compiles a C program of embed/c over the library."""
     needed(compiler)

@@ -6,39 +6,9 @@
 **
 ** Built with WRONG, LEAK or ROOM it makes a mistake on purpose: tools/embed checks that it is reported.
 */
-#include "mdsal.h"
+#include "checks.h"
 
-#include <stdio.h>
-#include <stdlib.h>
-#include <string.h>
 #include <time.h>
-
-static uint8_t text[1 << 16];
-static size_t text_length;
-
-#define CHECK(that) \
-    do { \
-        if (!(that)) { \
-            fprintf(stderr, "hostile: line %d: %s\n%.*s\n", __LINE__, #that, (int)text_length, text); \
-            exit(1); \
-        } \
-    } while (0)
-
-static uint32_t opened(mdsal *broker, const char *script) {
-    uint32_t status = mdsal_open(broker, (const uint8_t *)script, strlen(script));
-    text_length = mdsal_reply(broker, text, sizeof text);
-    return status;
-}
-
-static uint32_t stepped(mdsal *broker, uint32_t client, const char *step) {
-    uint32_t status = mdsal_step(broker, client, (const uint8_t *)step, strlen(step));
-    text_length = mdsal_reply(broker, text, sizeof text);
-    return status;
-}
-
-static bool said(const char *what) {
-    return text_length == strlen(what) && memcmp(text, what, text_length) == 0;
-}
 
 /* Each function may be called on a closed handle. */
 static void closed(mdsal *broker) {

@@ -15,7 +15,7 @@ use Rattle.std.specs.declared.alloc.Global.{Global}
 use Rattle.std.specs.contracts.impls.GlobalAllocator.TheImpl.{ghosts}
 use Rattle.std.specs.declared.option.Option.{Option}
 use Rattle.std.specs.declared.option.Option.TheVariants.{None, Some}
-use Rattle.sal_session.specs.contracts.Session as session
+use Rattle.sal_session.specs.contracts.session.Session as session
 use Rattle.sal_session.proofs.Sendable.{Session-send}
 use Rattle.mdsal_c.specs.Owned.{held_owns}
 use Rattle.mdsal_c.specs.contracts.held.Held as held

@@ -27,7 +27,7 @@ use Rattle.std.specs.declared.option.Option.{Option}
 use Rattle.std.specs.declared.option.Option.TheVariants.{None, Some}
 use Rattle.std_alloc.specs.Box.Ownership.{box_owns}
 use Rattle.sal_handle.proofs.Values.{both}
-use Rattle.sal_session.specs.contracts.Session as session
+use Rattle.sal_session.specs.contracts.session.Session as session
 use Rattle.mdsal_c.specs.Owned.{held_owns}
 use Rattle.mdsal_c.specs.contracts.held.Held as held
 

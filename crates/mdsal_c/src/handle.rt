@@ -2,7 +2,7 @@
 ghost use Rattle.std.specs.Prelude.{◌≡◌, false, option_map};
 ghost use Rattle.std.specs.Option.{is_some};
 ghost use Rattle.std.specs.declared.option.Option.TheVariants.{None, Some};
-ghost use Rattle.mdsal_c.specs.Handles.{Opens, is_open};
+ghost use Rattle.mdsal_c.specs.Handles.{Follows, Opens, is_open};
 
 use crate::held::Held;
 use sal_handle::loose::Loose;
@@ -41,7 +41,7 @@ impl Mdsal {
         *self = Mdsal { full: true, held };
     }
 
-    // Whether a broker is open.
+    // Whether there is a broker or a stand-by.
     pub(crate) fn is_open(&mut self, alloc: Global) -> bool
         ensures open { result ≡ is_open self.old.held.value }
         ensures same { self.new.held.value ≡ self.old.held.value }
@@ -65,6 +65,20 @@ impl Mdsal {
         match taken {
             Some(session) => loose::close(session),
             None => {}
+        }
+    }
+
+    // Sets a stand-by if there is no session.
+    pub(crate) fn stand(&mut self, alloc: Global, script: &[u8], first: u64) -> u32
+        requires { self.old.held.value ≡ None }
+        ensures { Follows script.now first self.new.held.value result }
+    {
+        match loose::follow(alloc, script, first) {
+            Ok((session, status)) => {
+                self.put(session);
+                status
+            }
+            Err(_) => NO_MEMORY,
         }
     }
 

@@ -5,8 +5,8 @@ ghost use Rattle.std.specs.Option.{is_some};
 ghost use Rattle.std.specs.declared.option.Option.{Option};
 ghost use Rattle.std.specs.declared.option.Option.TheVariants.{None, Some};
 ghost use Rattle.std.specs.contracts.impls.GlobalAllocator.TheImpl.{ghosts};
-ghost use Rattle.sal_session.specs.declared.Session.{Session as SessionValue};
-ghost use Rattle.sal_session.specs.contracts.Session.{the_row as session_row};
+ghost use Rattle.sal_session.specs.declared.session.Session.{Session as SessionValue};
+ghost use Rattle.sal_session.specs.contracts.session.Session.{the_row as session_row};
 ghost use Rattle.mdsal_c.specs.Owned.{held_owns};
 
 use sal_handle::loose::Loose;

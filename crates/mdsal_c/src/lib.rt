@@ -1,9 +1,10 @@
-//! The embedded broker for C: five functions over a handle that C keeps. `embed/mdsal.h` documents each.
+//! The embedded broker and its stand-by for C: functions over a handle that C keeps. `embed/mdsal.h` documents each.
 #![tactic(auto)]
 
 ghost use Rattle.std.specs.Prelude.{◌≡◌, ◌++◌, drop, length, min, take};
 ghost use Rattle.std.specs.declared.option.Option.TheVariants.{None};
-ghost use Rattle.mdsal_c.specs.Handles.{OpensIf, ReportsIf, StepsIf, reply_of};
+ghost use Rattle.mdsal_c.specs.Handles.{EpochIf, FeedsIf, FollowsIf, FramesIf, LeadsIf, LooksIf, OpensIf};
+ghost use Rattle.mdsal_c.specs.Handles.{ReportsIf, SnapshotsIf, StepsIf, left_in, number_in, reply_of, version_in};
 
 mod handle;
 mod held;
@@ -74,7 +75,166 @@ pub extern "C" fn mdsal_report(alloc: Global, handle: &mut Mdsal) -> u32
     }
 }
 
-/// Drops the broker and the text. The handle is zeros again.
+/// Opens a stand-by of the broker of a script, before a stream that begins with the frame of this number.
+#[unsafe(no_mangle)]
+pub extern "C" fn mdsal_follow(alloc: Global, handle: &mut Mdsal, script: &[u8], first: u64) -> u32
+    ensures { FollowsIf script.now first handle.old.held.value handle.new.held.value result }
+{
+    if handle.is_open(alloc) {
+        return IS_OPEN;
+    }
+    handle.close(alloc);
+    handle.stand(alloc, script, first)
+}
+
+/// The stand-by takes the next bytes of its stream.
+#[unsafe(no_mangle)]
+pub extern "C" fn mdsal_feed(alloc: Global, handle: &mut Mdsal, piece: &[u8]) -> u32
+    ensures { FeedsIf handle.old.held.value piece.now handle.new.held.value result }
+{
+    let taken = handle.take(alloc);
+    match taken {
+        Some(session) => {
+            let (session, status) = loose::feed(session, alloc, piece);
+            handle.put(session);
+            status
+        }
+        None => NOT_OPEN,
+    }
+}
+
+/// The stand-by becomes the broker, by this version of the schema. Else it stays.
+#[unsafe(no_mangle)]
+pub extern "C" fn mdsal_lead(alloc: Global, handle: &mut Mdsal, version: u32) -> u32
+    ensures { LeadsIf handle.old.held.value version handle.new.held.value result }
+{
+    let taken = handle.take(alloc);
+    match taken {
+        Some(session) => {
+            let (session, status) = loose::lead(session, alloc, version);
+            handle.put(session);
+            status
+        }
+        None => NOT_OPEN,
+    }
+}
+
+/// The text of `mdsal_reply` is the frames of the commits with numbers above this one.
+#[unsafe(no_mangle)]
+pub extern "C" fn mdsal_frames(alloc: Global, handle: &mut Mdsal, above: u64) -> u32
+    ensures { FramesIf handle.old.held.value above handle.new.held.value result }
+{
+    let taken = handle.take(alloc);
+    match taken {
+        Some(session) => {
+            let (session, status) = loose::frames(session, alloc, above);
+            handle.put(session);
+            status
+        }
+        None => NOT_OPEN,
+    }
+}
+
+/// The text is the frame of the newest commit, with all rows.
+#[unsafe(no_mangle)]
+pub extern "C" fn mdsal_snapshot(alloc: Global, handle: &mut Mdsal) -> u32
+    ensures { SnapshotsIf handle.old.held.value handle.new.held.value result }
+{
+    let taken = handle.take(alloc);
+    match taken {
+        Some(session) => {
+            let (session, status) = loose::snapshot(session, alloc);
+            handle.put(session);
+            status
+        }
+        None => NOT_OPEN,
+    }
+}
+
+/// Begins the next epoch, if no submission is pending and the newest commit has this number.
+#[unsafe(no_mangle)]
+pub extern "C" fn mdsal_epoch(alloc: Global, handle: &mut Mdsal, newest: u64) -> u32
+    ensures { EpochIf handle.old.held.value newest handle.new.held.value result }
+{
+    let taken = handle.take(alloc);
+    match taken {
+        Some(session) => {
+            let (session, status) = loose::epoch(session, alloc, newest);
+            handle.put(session);
+            status
+        }
+        None => NOT_OPEN,
+    }
+}
+
+/// The text is that of a read in the newest tree of the store: 0 is the configuration, 1 the operational one.
+#[unsafe(no_mangle)]
+pub extern "C" fn mdsal_look(alloc: Global, handle: &mut Mdsal, store: u32, path: &[u8]) -> u32
+    ensures { LooksIf handle.old.held.value store path.now handle.new.held.value result }
+{
+    let taken = handle.take(alloc);
+    match taken {
+        Some(session) => {
+            let (session, status) = loose::look(session, alloc, store, path);
+            handle.put(session);
+            status
+        }
+        None => NOT_OPEN,
+    }
+}
+
+/// The number of the newest commit, or of the last frame; 0 if there is none.
+#[unsafe(no_mangle)]
+pub extern "C" fn mdsal_number(alloc: Global, handle: &mut Mdsal) -> u64
+    ensures number { result ≡ number_in handle.old.held.value }
+    ensures same { handle.new.held.value ≡ handle.old.held.value }
+{
+    let taken = handle.take(alloc);
+    match taken {
+        Some(session) => {
+            let (session, number) = loose::number(session);
+            handle.put(session);
+            number
+        }
+        None => 0,
+    }
+}
+
+/// The present version of a broker's schema, as the script counts; else 0.
+#[unsafe(no_mangle)]
+pub extern "C" fn mdsal_version(alloc: Global, handle: &mut Mdsal) -> u32
+    ensures number { result ≡ version_in handle.old.held.value }
+    ensures same { handle.new.held.value ≡ handle.old.held.value }
+{
+    let taken = handle.take(alloc);
+    match taken {
+        Some(session) => {
+            let (session, number) = loose::version(session);
+            handle.put(session);
+            number
+        }
+        None => 0,
+    }
+}
+
+/// How many entries the log of a broker has left; else 0.
+#[unsafe(no_mangle)]
+pub extern "C" fn mdsal_left(alloc: Global, handle: &mut Mdsal) -> usize
+    ensures number { result ≡ left_in handle.old.held.value }
+    ensures same { handle.new.held.value ≡ handle.old.held.value }
+{
+    let taken = handle.take(alloc);
+    match taken {
+        Some(session) => {
+            let (session, number) = loose::left(session);
+            handle.put(session);
+            number
+        }
+        None => 0,
+    }
+}
+
+/// Drops the broker or the stand-by, and the text. The handle is zeros again.
 #[unsafe(no_mangle)]
 pub extern "C" fn mdsal_close(alloc: Global, handle: &mut Mdsal)
     ensures { handle.new.held.value ≡ None }

@@ -1,2 +1,2 @@
-mod Kept
+mod Led
 pub mod Sendable

@@ -1,5 +1,5 @@
--- An embedded broker with the text of its last call, as a host sees it: by numbers and texts.
-use Rattle.std.specs.Prelude.{◌≡◌, ◌⊎◌, ℕ, Bool, true, false, if◌then◌else◌, List, [], Option, None, Some, Result, Ok, Err}
+-- A session, as a host sees it: by numbers and texts. The calls of a broker.
+use Rattle.std.specs.Prelude.{◌≡◌, ℕ, Bool, true, false, if◌then◌else◌, List, [], Result, Ok, Err}
 use Rattle.sal_types.specs.declared.memory.NoMemory.{NoMemory as Wanting}
 use Rattle.sal_prepare.specs.Scripted.{IsStatusOf}
 use Rattle.sal_prepare.specs.Statuses.{line_of, number_of as status_number}
@@ -7,9 +7,13 @@ use Rattle.sal_prepare.specs.declared.status.Status.{Status}
 use Rattle.sal_embed.specs.declared.clients.Clients.{Clients}
 use Rattle.sal_embed.specs.declared.fault.StepFault.{StepFault}
 use Rattle.sal_embed.specs.declared.fault.StepFault.TheVariants.{BadStep, BadClient, Full, Lost, NoMemory, Untold, Broken}
-use Rattle.sal_session.specs.declared.Session.{Session}
 use Rattle.sal_embed.specs.Opening.{IsBegun, opened, world_of}
 use Rattle.sal_embed.specs.Outcomes.{Reports, Steps}
+use Rattle.sal_cluster.specs.declared.leader.Leader.{Leader}
+use Rattle.sal_session.specs.declared.role.Role.{Role}
+use Rattle.sal_session.specs.declared.role.Role.TheVariants.{Closed, Broker, StandBy}
+use Rattle.sal_session.specs.declared.session.Session.{Session}
+use Rattle.sal_session.specs.Texts.{IsLine, told}
 
 -- ---- numbers and texts
 
@@ -37,16 +41,28 @@ text_of (Err why) = []
 
 -- ---- calls
 
+-- there is a broker or a stand-by
+abbrev pub is_open : Role → Bool
+is_open Closed = false
+is_open (Broker it) = true
+is_open (StandBy it) = true
+
+-- a broker that begins a stream: its commit 0 has the number 0, by version 0
+abbrev pub first_leader : Clients → Leader
+first_leader it = record { broker = it; base = 0; version = 0 }
+
 -- The broker of the bytes is open, with no step made; or none is, and the number and the text are those of the status: the text may be missing, if
 -- memory ran out.
-abbrev pub Opens : List ℕ → Option Clients → List ℕ → ℕ → Type 0
-Opens bytes (Some it) text n = (n ≡ 0) × (text ≡ []) × (world_of (opened bytes) ≡ Ok it.hub.world) × IsBegun it
-Opens bytes None text n = (status : Status) × (n ≡ status_number status) × IsStatusOf (world_of (opened bytes)) status × ((text ≡ line_of status) ⊎ (text ≡ []))
+abbrev pub Opens : List ℕ → Role → List ℕ → ℕ → Type 0
+Opens bytes Closed text n = (status : Status) × (n ≡ status_number status) × IsStatusOf (world_of (opened bytes)) status × IsLine (line_of status) text
+Opens bytes (Broker it) text n =
+    (n ≡ 0) × (text ≡ []) × (world_of (opened bytes) ≡ Ok it.broker.hub.world) × IsBegun it.broker × (it ≡ first_leader it.broker)
+Opens bytes (StandBy it) text n = ⊥
 
 -- a broken broker is dropped
-abbrev pub kept : Result (List ℕ) StepFault → Clients → Option Clients
-kept (Err Broken) it = None
-kept result it = Some it
+abbrev pub kept : Result (List ℕ) StepFault → Leader → Role
+kept (Err Broken) it = Closed
+kept result it = Broker it
 
 abbrev pub is_broken : StepFault → Bool
 is_broken Broken = true
@@ -55,21 +71,29 @@ is_broken fault = false
 -- the number of a fault, which drops a broken broker
 pub record Fails (fault : StepFault) (old new : Session) (n : ℕ) : Type 0 where
   pub number : n ≡ number_of fault
-  pub broker : new.broker ≡ (if is_broken fault then None else old.broker)
-  pub reply : new.reply ≡ old.reply
+  pub role : new.role ≡ (if is_broken fault then Closed else old.role)
+  pub text : new.text ≡ old.text
 
--- no broker is open, before and after the call
-abbrev pub IsClosed : Session → ℕ → Type 0
-IsClosed new n = (n ≡ 21) × (new.broker ≡ None) × (new.reply ≡ [])
+-- the call has this number and no text, and leaves this
+abbrev pub Leaves : ℕ → Role → Session → ℕ → Type 0
+Leaves number role new n = (n ≡ number) × (new.role ≡ role) × (told new.text ≡ [])
 
--- a step of the broker, if one is open
-abbrev pub StepsIf : Option Clients → ℕ → List ℕ → Session → ℕ → Type 0
-StepsIf None c bytes new n = IsClosed new n
-StepsIf (Some old) c bytes new n =
-    (result : Result (List ℕ) StepFault) × (it : Clients) × Steps old it c bytes result × (new.broker ≡ kept result it) × (n ≡ step_number result) × (new.reply ≡ text_of result)
+-- the broker after a call, with the numbers that it had
+abbrev pub as_now : Leader → Clients → Leader
+as_now old it = record old { broker = it }
 
--- a report of the broker, if one is open
-abbrev pub ReportsIf : Option Clients → Session → ℕ → Type 0
-ReportsIf None new n = IsClosed new n
-ReportsIf (Some old) new n =
-    (result : Result (List ℕ) Wanting) × (it : Clients) × Reports old it result × (new.broker ≡ Some it) × (n ≡ report_number result) × (new.reply ≡ text_of result)
+-- a step of the broker, if there is one
+abbrev pub StepsIf : Role → ℕ → List ℕ → Session → ℕ → Type 0
+StepsIf Closed c bytes new n = Leaves 21 Closed new n
+StepsIf (StandBy it) c bytes new n = Leaves 29 (StandBy it) new n
+StepsIf (Broker old) c bytes new n =
+    (result : Result (List ℕ) StepFault) × (it : Clients) × Steps old.broker it c bytes result
+    × (new.role ≡ kept result (as_now old it)) × (n ≡ step_number result) × (told new.text ≡ text_of result)
+
+-- a report of the broker, if there is one
+abbrev pub ReportsIf : Role → Session → ℕ → Type 0
+ReportsIf Closed new n = Leaves 21 Closed new n
+ReportsIf (StandBy it) new n = Leaves 29 (StandBy it) new n
+ReportsIf (Broker old) new n =
+    (result : Result (List ℕ) Wanting) × (it : Clients) × Reports old.broker it result
+    × (new.role ≡ Broker (as_now old it)) × (n ≡ report_number result) × (told new.text ≡ text_of result)

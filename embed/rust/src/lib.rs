@@ -4,11 +4,18 @@
 //! let mut broker = mdsal::Broker::open(r#"{"config":{"plain:box":{"a":"x"}}}"#)?;
 //! assert_eq!(broker.step(0, r#"["begin",0,0,"rw"]"#)?, "begun 0");
 //! println!("{}", broker.report()?);
+//! let mut standby = mdsal::StandBy::open(r#"{"config":{"plain:box":{"a":"x"}}}"#, 0)?;
+//! standby.feed(broker.snapshot()?)?;
 //! # Ok::<(), mdsal::Error>(())
 //! ```
 //!
-//! A step that the broker refuses has a reply, which starts with `refused`. A call without a reply returns an [`Error`]. A [`Broker`] may move
-//! to another thread; to share it, use a `Mutex`. It is closed when it is dropped.
+//! A step that the broker refuses has a reply, which starts with `refused`; [`Broker::commit`] and [`Broker::update`] give outcomes with fields. A call
+//! without a reply returns an [`Error`]. A [`Broker`] and a [`StandBy`] may move to another thread; to share one, use a `Mutex`. It is closed when it is
+//! dropped.
+mod reply;
+
+pub use reply::Outcome;
+
 use std::fmt;
 use std::ptr;
 
@@ -23,6 +30,16 @@ unsafe extern "C" {
     fn mdsal_step(handle: &mut Handle, client: u32, step: *const u8, length: usize) -> u32;
     fn mdsal_reply(handle: &mut Handle, out: *mut u8, room: usize) -> usize;
     fn mdsal_report(handle: &mut Handle) -> u32;
+    fn mdsal_frames(handle: &mut Handle, above: u64) -> u32;
+    fn mdsal_snapshot(handle: &mut Handle) -> u32;
+    fn mdsal_epoch(handle: &mut Handle, newest: u64) -> u32;
+    fn mdsal_follow(handle: &mut Handle, script: *const u8, length: usize, first: u64) -> u32;
+    fn mdsal_feed(handle: &mut Handle, bytes: *const u8, length: usize) -> u32;
+    fn mdsal_lead(handle: &mut Handle, version: u32) -> u32;
+    fn mdsal_look(handle: &mut Handle, store: u32, path: *const u8, length: usize) -> u32;
+    fn mdsal_number(handle: &mut Handle) -> u64;
+    fn mdsal_version(handle: &mut Handle) -> u32;
+    fn mdsal_left(handle: &mut Handle) -> usize;
     fn mdsal_close(handle: &mut Handle);
 }
 
@@ -52,6 +69,22 @@ pub enum Error {
     Untold,
     /// Memory ran out after a call was added to the log, and the broker is closed.
     Broken,
+    /// The bytes are not the next frames; with the line of the fault.
+    BadStream(String),
+    /// The text of a frame is longer than 16,777,216 bytes; with its line.
+    BadExport(String),
+    /// The broker does not keep commits of numbers that low.
+    Gone,
+    /// A submission is not decided.
+    Pending,
+    /// The newest commit has another number.
+    NotNewest,
+    /// The stand-by has no frame yet.
+    Empty,
+    /// The script has no such version, or the trees are no trees of it.
+    BadVersion,
+    /// A step of [`Broker::commit`] or [`Broker::update`] was refused; with its reply.
+    Refused(String),
     /// A status that this crate does not know.
     Other(u32),
 }
@@ -70,6 +103,13 @@ impl Error {
             26 => Error::Lost,
             27 => Error::Untold,
             28 => Error::Broken,
+            12 => Error::BadStream(text),
+            13 => Error::BadExport(text),
+            30 => Error::Gone,
+            31 => Error::Pending,
+            32 => Error::NotNewest,
+            33 => Error::Empty,
+            34 => Error::BadVersion,
             other => Error::Other(other),
         }
     }
@@ -81,6 +121,14 @@ impl fmt::Display for Error {
             Error::BadScript(text) | Error::BadSchema(text) | Error::BadOpening(text) => {
                 f.write_str(text.trim_end())
             }
+            Error::BadStream(text) | Error::BadExport(text) | Error::Refused(text) => {
+                f.write_str(text.trim_end())
+            }
+            Error::Gone => f.write_str("the broker does not keep commits of numbers that low"),
+            Error::Pending => f.write_str("a submission is not decided"),
+            Error::NotNewest => f.write_str("the newest commit has another number"),
+            Error::Empty => f.write_str("the stand-by has no frame yet"),
+            Error::BadVersion => f.write_str("the trees are no trees of this version"),
             Error::NoMemory => f.write_str("memory ran out, and the step was not made"),
             Error::Closed => f.write_str("the broker was broken by an earlier step"),
             Error::BadStep => f.write_str("the bytes are no step"),
@@ -96,55 +144,40 @@ impl fmt::Display for Error {
 
 impl std::error::Error for Error {}
 
-/// A broker over the opening trees of a script without clients and order.
-pub struct Broker {
+/// The store of a look.
+#[derive(Clone, Copy, Debug, PartialEq, Eq)]
+pub enum Store {
+    Config = 0,
+    Operational = 1,
+}
+
+/// A handle with what it holds.
+struct Session {
     handle: Handle,
 }
 
 // SAFETY: it is proved that the content of a handle may move to another thread (`handles_may_move` of crates/mdsal_c), and `&mut self`
 // allows one call at a time.
-unsafe impl Send for Broker {}
+unsafe impl Send for Session {}
 
-impl Broker {
-    /// Opens a broker.
-    pub fn open(script: impl AsRef<[u8]>) -> Result<Broker, Error> {
+impl Session {
+    fn closed() -> Session {
         let handle = Handle {
             full: false,
             at: ptr::null_mut(),
         };
-        let mut broker = Broker { handle };
-        let script = script.as_ref();
-        // SAFETY: the handle is zeros; the pointer and the length are those of a slice.
-        let status = unsafe { mdsal_open(&mut broker.handle, script.as_ptr(), script.len()) };
+        Session { handle }
+    }
+
+    fn answered(&mut self, status: u32) -> Result<Vec<u8>, Error> {
+        let text = self.reply();
         match status {
-            0 => Ok(broker),
-            status => Err(Error::of(status, broker.reply())),
+            0 => Ok(text),
+            status => Err(Error::of(status, told(text))),
         }
     }
 
-    /// Makes the client's next step, and returns the text of its reply.
-    pub fn step(&mut self, client: u32, step: impl AsRef<[u8]>) -> Result<String, Error> {
-        let step = step.as_ref();
-        // SAFETY: the handle is this broker's, used by one call at a time; the pointer and the length are those of a slice.
-        let status = unsafe { mdsal_step(&mut self.handle, client, step.as_ptr(), step.len()) };
-        self.answered(status)
-    }
-
-    /// Returns the report of all steps so far, as `mdsal sim` writes it.
-    pub fn report(&mut self) -> Result<String, Error> {
-        // SAFETY: the handle is this broker's, used by one call at a time.
-        let status = unsafe { mdsal_report(&mut self.handle) };
-        self.answered(status)
-    }
-
-    fn answered(&mut self, status: u32) -> Result<String, Error> {
-        match status {
-            0 => Ok(self.reply()),
-            status => Err(Error::of(status, String::new())),
-        }
-    }
-
-    fn reply(&mut self) -> String {
+    fn reply(&mut self) -> Vec<u8> {
         let mut out = vec![0; 256];
         loop {
             // SAFETY: `out` has this room, and nothing else points to it.
@@ -152,15 +185,201 @@ impl Broker {
             let fits = length <= out.len();
             out.resize(length, 0);
             if fits {
-                return String::from_utf8_lossy(&out).into_owned();
+                return out;
             }
         }
     }
+
+    fn look(&mut self, store: Store, path: &str) -> Result<String, Error> {
+        // SAFETY: the handle is used by one call at a time; the pointer and the length are those of a slice.
+        let status =
+            unsafe { mdsal_look(&mut self.handle, store as u32, path.as_ptr(), path.len()) };
+        self.answered(status).map(told)
+    }
+
+    fn snapshot(&mut self) -> Result<Vec<u8>, Error> {
+        // SAFETY: the handle is used by one call at a time.
+        let status = unsafe { mdsal_snapshot(&mut self.handle) };
+        self.answered(status)
+    }
+
+    fn number(&mut self) -> u64 {
+        // SAFETY: the handle is used by one call at a time.
+        unsafe { mdsal_number(&mut self.handle) }
+    }
 }
 
-impl Drop for Broker {
+impl Drop for Session {
     fn drop(&mut self) {
         // SAFETY: it is the last call.
         unsafe { mdsal_close(&mut self.handle) }
+    }
+}
+
+fn told(text: Vec<u8>) -> String {
+    String::from_utf8_lossy(&text).into_owned()
+}
+
+/// A broker over the opening trees of a script without clients and order.
+pub struct Broker {
+    session: Session,
+}
+
+impl Broker {
+    /// Opens a broker.
+    pub fn open(script: impl AsRef<[u8]>) -> Result<Broker, Error> {
+        let mut session = Session::closed();
+        let script = script.as_ref();
+        // SAFETY: the handle is zeros; the pointer and the length are those of a slice.
+        let status = unsafe { mdsal_open(&mut session.handle, script.as_ptr(), script.len()) };
+        session.answered(status)?;
+        Ok(Broker { session })
+    }
+
+    /// Makes the client's next step, and returns the text of its reply.
+    pub fn step(&mut self, client: u32, step: impl AsRef<[u8]>) -> Result<String, Error> {
+        let (handle, step) = (&mut self.session.handle, step.as_ref());
+        // SAFETY: the handle is this broker's, used by one call at a time; the pointer and the length are those of a slice.
+        let status = unsafe { mdsal_step(handle, client, step.as_ptr(), step.len()) };
+        self.session.answered(status).map(told)
+    }
+
+    /// Makes the client's next step, and returns the text of its reply; a refusal is an error.
+    pub fn made(&mut self, client: u32, step: impl AsRef<[u8]>) -> Result<String, Error> {
+        match self.step(client, step)? {
+            reply if reply.starts_with("refused ") => Err(Error::Refused(reply)),
+            reply => Ok(reply),
+        }
+    }
+
+    /// Submits the transaction in the slot, and returns what became of it.
+    pub fn commit(&mut self, client: u32, slot: u8) -> Result<Outcome, Error> {
+        self.made(client, format!(r#"["submit",{slot}]"#))?;
+        let reply = self.made(client, format!(r#"["settle",{slot}]"#))?;
+        Ok(Outcome::of(&reply))
+    }
+
+    /// Calls the function with an open transaction in slot 0 of the client, commits it, and begins again after a conflict. If the function fails, the
+    /// transaction is cancelled.
+    pub fn update<T>(
+        &mut self,
+        client: u32,
+        mut function: impl FnMut(&mut Broker) -> Result<T, Error>,
+    ) -> Result<(T, Outcome), Error> {
+        loop {
+            self.made(client, r#"["begin",0,0,"rw"]"#)?;
+            let kept = match function(self) {
+                Ok(kept) => kept,
+                Err(error) => {
+                    self.step(client, r#"["cancel",0]"#)?;
+                    return Err(error);
+                }
+            };
+            match self.commit(client, 0)? {
+                Outcome::Conflict { .. } => {}
+                outcome => return Ok((kept, outcome)),
+            }
+        }
+    }
+
+    /// Returns the report of all steps so far, as `mdsal sim` writes it.
+    pub fn report(&mut self) -> Result<String, Error> {
+        // SAFETY: the handle is this broker's, used by one call at a time.
+        let status = unsafe { mdsal_report(&mut self.session.handle) };
+        self.session.answered(status).map(told)
+    }
+
+    /// The frames of the commits of the controller's own domain with numbers above this one.
+    pub fn frames(&mut self, above: u64) -> Result<Vec<u8>, Error> {
+        // SAFETY: the handle is this broker's, used by one call at a time.
+        let status = unsafe { mdsal_frames(&mut self.session.handle, above) };
+        self.session.answered(status)
+    }
+
+    /// The frame of the newest commit, with all rows: a stream may begin with it.
+    pub fn snapshot(&mut self) -> Result<Vec<u8>, Error> {
+        self.session.snapshot()
+    }
+
+    /// Begins the next epoch, if nothing is pending and the newest commit has this number.
+    pub fn epoch(&mut self, newest: u64) -> Result<(), Error> {
+        // SAFETY: the handle is this broker's, used by one call at a time.
+        let status = unsafe { mdsal_epoch(&mut self.session.handle, newest) };
+        self.session.answered(status).map(drop)
+    }
+
+    /// The text of a read in the newest tree: `data JSON`, `absent` or `refused path FAULT`. It is no step.
+    pub fn look(&mut self, store: Store, path: &str) -> Result<String, Error> {
+        self.session.look(store, path)
+    }
+
+    /// The number of the newest commit.
+    pub fn number(&mut self) -> u64 {
+        self.session.number()
+    }
+
+    /// The present version of the schema, as the script counts: for [`StandBy::lead`].
+    pub fn version(&mut self) -> u32 {
+        // SAFETY: the handle is this broker's, used by one call at a time.
+        unsafe { mdsal_version(&mut self.session.handle) }
+    }
+
+    /// How many shared calls the log has room for.
+    pub fn left(&mut self) -> usize {
+        // SAFETY: the handle is this broker's, used by one call at a time.
+        unsafe { mdsal_left(&mut self.session.handle) }
+    }
+}
+
+/// A stand-by of the broker of a script: it takes a stream of frames, and can become the broker.
+pub struct StandBy {
+    session: Session,
+}
+
+impl StandBy {
+    /// Opens a stand-by, before a stream that begins with the frame of the number `first`, which has all rows.
+    pub fn open(script: impl AsRef<[u8]>, first: u64) -> Result<StandBy, Error> {
+        let mut session = Session::closed();
+        let script = script.as_ref();
+        // SAFETY: the handle is zeros; the pointer and the length are those of a slice.
+        let status =
+            unsafe { mdsal_follow(&mut session.handle, script.as_ptr(), script.len(), first) };
+        session.answered(status)?;
+        Ok(StandBy { session })
+    }
+
+    /// Takes the next bytes of the stream, cut anywhere.
+    pub fn feed(&mut self, bytes: impl AsRef<[u8]>) -> Result<(), Error> {
+        let (handle, bytes) = (&mut self.session.handle, bytes.as_ref());
+        // SAFETY: the handle is used by one call at a time; the pointer and the length are those of a slice.
+        let status = unsafe { mdsal_feed(handle, bytes.as_ptr(), bytes.len()) };
+        self.session.answered(status).map(drop)
+    }
+
+    /// The frame of its commit, with all rows.
+    pub fn snapshot(&mut self) -> Result<Vec<u8>, Error> {
+        self.session.snapshot()
+    }
+
+    /// The text of a read in its tree, as [`Broker::look`].
+    pub fn look(&mut self, store: Store, path: &str) -> Result<String, Error> {
+        self.session.look(store, path)
+    }
+
+    /// The number of its last frame; 0 before the first one.
+    pub fn number(&mut self) -> u64 {
+        self.session.number()
+    }
+
+    /// The broker that it becomes, by this version of the schema; or why it does not, and the stand-by as it was.
+    pub fn lead(mut self, version: u32) -> Result<Broker, (StandBy, Error)> {
+        // SAFETY: the handle is used by one call at a time.
+        let status = unsafe { mdsal_lead(&mut self.session.handle, version) };
+        match self.session.answered(status) {
+            Ok(_) => Ok(Broker {
+                session: self.session,
+            }),
+            Err(error) => Err((self, error)),
+        }
     }
 }

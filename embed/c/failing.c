@@ -1,0 +1,110 @@
+/*
+** Each allocation of the calls for frames and stand-bys fails once. The call says so, and is made again: then everything is as if it had not failed.
+**
+** It prints how many allocations failed. It is linked with --wrap=malloc --wrap=realloc. Built with WRONG it has a wrong expectation.
+*/
+#include "checks.h"
+
+static unsigned long allocations, failing, failed;
+
+void *__real_malloc(size_t size);
+void *__real_realloc(void *at, size_t size);
+void *__wrap_malloc(size_t size);
+void *__wrap_realloc(void *at, size_t size);
+
+static bool fails(void) {
+    return failing != 0 && ++allocations == failing;
+}
+
+void *__wrap_malloc(size_t size) {
+    return fails() ? NULL : __real_malloc(size);
+}
+
+void *__wrap_realloc(void *at, size_t size) {
+    return fails() ? NULL : __real_realloc(at, size);
+}
+
+/* The statuses of a call, and of the same call once more if memory ran out. */
+#define AGAIN(handle, call) \
+    do { \
+        uint32_t status = kept(handle, call); \
+        if (status == MDSAL_NO_MEMORY) { \
+            failed++; \
+            CHECK(said("") || said("no memory\n")); \
+            status = kept(handle, call); \
+        } \
+        CHECK(status == MDSAL_OK); \
+    } while (0)
+
+#define T(text) (const uint8_t *)(text), strlen(text)
+#define SCRIPT "{\"devices\":[{\"modules\":[\"module d { namespace 'urn:d'; prefix d; leaf n { type string; } }\"],\"config\":{\"d:n\":\"x\"}}]}"
+#define OPENING "00000041\n{\"commit\":0,\"config\":[],\"operational\":[]}\n"
+#define FIRST "00000052\n{\"commit\":1,\"config\":[[[0,1],\"x\"]],\"operational\":[]}\n"
+#define SECOND "00000052\n{\"commit\":2,\"config\":[[[0,1],\"y\"]],\"operational\":[]}\n"
+
+/* A commit, without a failure. */
+static void commit(mdsal *broker, const char *step) {
+    unsigned long was = failing;
+    failing = 0;
+    CHECK(stepped(broker, 0, "[\"begin\",0,0,\"rw\"]") == MDSAL_OK && stepped(broker, 0, step) == MDSAL_OK && said("ok"));
+    CHECK(stepped(broker, 0, "[\"submit\",0]") == MDSAL_OK && stepped(broker, 0, "[\"settle\",0]") == MDSAL_OK && said("done 1"));
+    failing = was;
+}
+
+/* A broker that opens, sends a frame and begins an epoch, which takes no memory. */
+static void leads(mdsal *broker) {
+    AGAIN(broker, mdsal_open(broker, T(SCRIPT)));
+    AGAIN(broker, mdsal_snapshot(broker));
+    CHECK(said(OPENING));
+    commit(broker, "[\"put\",0,\"config\",\"/plain:box/a\",\"x\"]");
+    AGAIN(broker, mdsal_frames(broker, 0));
+    CHECK(said(FIRST));
+    AGAIN(broker, mdsal_look(broker, 0, T("/plain:box/a")));
+    CHECK(said("data \"x\""));
+    unsigned long before = allocations;
+    CHECK(mdsal_epoch(broker, 1) == MDSAL_OK && allocations == before);
+#ifdef WRONG
+    AGAIN(broker, mdsal_frames(broker, 1));
+    CHECK(!said(""));
+#endif
+    commit(broker, "[\"put\",0,\"config\",\"/plain:box/a\",\"y\"]");
+    AGAIN(broker, mdsal_frames(broker, 1));
+    CHECK(said(SECOND) && mdsal_number(broker) == 2);
+}
+
+/* A stand-by that follows both frames, meets a bad byte, and leads. */
+static void follows(mdsal *standby) {
+    AGAIN(standby, mdsal_follow(standby, T(SCRIPT), 0));
+    AGAIN(standby, mdsal_feed(standby, T(OPENING)));
+    AGAIN(standby, mdsal_feed(standby, T(FIRST "00")));
+    CHECK(mdsal_number(standby) == 1);
+    AGAIN(standby, mdsal_feed(standby, T("000052\n{\"commit\":2,\"config\":[[[0,1],\"y\"]],\"operational\":[]}\n")));
+    AGAIN(standby, mdsal_look(standby, 0, T("/plain:box/a")));
+    CHECK(said("data \"y\"") && mdsal_number(standby) == 2);
+    AGAIN(standby, mdsal_snapshot(standby));
+    CHECK(said(SECOND));
+    uint32_t status = kept(standby, mdsal_feed(standby, T("????????\n")));
+    if (status == MDSAL_NO_MEMORY) {
+        failed++;
+        status = kept(standby, mdsal_feed(standby, T("????????\n")));
+    }
+    CHECK(status == MDSAL_BAD_STREAM && (said("bad stream bad-frame 175\n") || said("")));
+    AGAIN(standby, mdsal_lead(standby, 0));
+    CHECK(mdsal_number(standby) == 2 && mdsal_left(standby) == 1000000);
+}
+
+int main(void) {
+    unsigned long n = 1;
+    do {
+        mdsal broker = {0}, standby = {0};
+        allocations = 0;
+        failing = n++;
+        leads(&broker);
+        follows(&standby);
+        failing = 0;
+        mdsal_close(&broker);
+        mdsal_close(&standby);
+    } while (allocations >= n - 1);
+    printf("each of %lu allocations failed in turn, %lu of them in a call that said so\n", n - 2, failed);
+    return 0;
+}

@@ -1,0 +1,96 @@
+"""A small controller: what docs/EMBEDDING.md shows, in the order of that page. It prints embed/controller.txt."""
+import os
+import re
+import sys
+
+import mdsal
+
+NET = """module net { namespace 'urn:net'; prefix n;
+  container net { leaf name { type string; } list node { key id; leaf id { type string; } } }
+  rpc restart { input { leaf node { type string; } } output { leaf ok { type boolean; } } }
+  notification alarm { leaf text { type string; } } }"""
+SWITCH = "module switch { namespace 'urn:switch'; prefix s; container switch { leaf speed { type uint32; } } }"
+SCRIPT = {"modules": [NET], "rules": 2, "devices": [{"modules": [SWITCH], "config": {"switch:switch": {"speed": 10}}}]}
+APP, SERVICE, NODE = 0, 1, "/net:net/node[id='s1']"
+
+
+def react(broker: mdsal.Broker) -> None:
+    """A client listens, another one changes the tree."""
+    broker.call(SERVICE, ["listen", 0, 0, "config", "/net:net"])
+    broker.update(lambda t: t.put("config", "/net:net/name", "lab"), client=APP)
+    for part in broker.call(SERVICE, ["take", 0]).parts:
+        for change in part.changes:
+            print(part.commit, part.kind, change.path, change.before, change.after)
+
+
+def answer(broker: mdsal.Broker) -> None:
+    """A client calls an RPC, its provider answers; then it is told of an alarm."""
+    broker.call(SERVICE, ["provide", "net:restart", None])
+    broker.call(APP, ["invoke", 0, "net:restart", None, {"node": "s1"}])
+    while isinstance(request := broker.call(SERVICE, ["next-call", 0]), mdsal.replies.Request):
+        broker.call(SERVICE, ["answer", 0, {"ok": request.input["node"] == "s1"}])
+    print(broker.call(APP, ["collect", 0]).value)
+    broker.call(APP, ["subscribe", "net:alarm"])
+    broker.call(SERVICE, ["offer", "net:alarm", {"text": "hot"}])
+    print(broker.call(APP, ["take-notes"]).notes)
+
+
+def connect(broker: mdsal.Broker) -> None:
+    """A device is mounted: it is domain 1, with a tree of its own."""
+    broker.update(lambda t: t.put("config", NODE, {"id": "s1"}), client=APP)
+    broker.call(SERVICE, ["mount", 1, NODE])
+    broker.update(lambda t: t.put("config", "/switch:switch/speed", 100), client=SERVICE, domain=1)
+    print(broker.update(lambda t: t.read("config", "/switch:switch"), client=APP, domain=1))
+
+
+def reconnect(broker: mdsal.Broker) -> None:
+    """A device mounts once an epoch: when it comes back, it needs the next one."""
+    broker.call(SERVICE, ["unmount", 1])
+    try:
+        broker.call(SERVICE, ["mount", 1, NODE])
+    except mdsal.refusals.DeviceUsed:
+        broker.epoch(broker.number)
+        broker.call(SERVICE, ["mount", 1, NODE])
+    print(broker.update(lambda t: t.read("config", "/switch:switch"), client=APP, domain=1))
+
+
+def keep(broker: mdsal.Broker, path: str, sent: int) -> int:
+    """Appends the frames above this number, and returns the number up to which the file has them."""
+    frames = broker.frames(sent)
+    with open(path, "ab") as file:
+        file.write(frames)
+        file.flush()
+        os.fsync(file.fileno())
+    return broker.number
+
+
+def restarted(path: str) -> mdsal.Broker:
+    """The broker of the file: it goes on with its last frame."""
+    with open(path, "rb") as file:
+        frames = file.read()
+    first = int(re.match(rb'\d{8}\n{"commit":(\d+)', frames)[1])
+    standby = mdsal.StandBy(SCRIPT, first)
+    standby.feed(frames)
+    return standby.lead(0)
+
+
+def main() -> None:
+    path = sys.argv[1]
+    with mdsal.Broker(SCRIPT) as broker:
+        with open(path, "wb") as file:
+            file.write(broker.snapshot())
+        sent = 0
+        react(broker)
+        answer(broker)
+        connect(broker)
+        sent = keep(broker, path, sent)
+        reconnect(broker)
+        broker.update(lambda t: t.put("config", "/net:net/name", "hall"), client=APP)
+        sent = keep(broker, path, sent)
+        print(sent, broker.left)
+    with restarted(path) as broker:
+        print(broker.number, broker.left, broker.look("config", "/net:net"))
+
+
+if __name__ == "__main__":
+    main()

@@ -1,0 +1,165 @@
+"""A broker in this process."""
+from __future__ import annotations
+
+import contextlib
+import ctypes
+import threading
+from typing import Any, Callable, Iterable, TypeVar
+
+from .errors import BadClient, Error
+from .library import Handle, Session, bytes_of, number
+from .replies import Conflict, Data, Done, Outcome, Reply, Truth, reply_of
+
+CLIENTS = 65536
+Kept = TypeVar("Kept")
+
+
+class NotCommitted(Error):
+    """A transaction of `update` was decided, but is no commit and no conflict. `outcome` says why."""
+
+    def __init__(self, outcome: Outcome):
+        super().__init__(str(outcome))
+        self.outcome = outcome
+
+
+class Broker(Session):
+    """A broker over the opening trees of a script without clients and order. `library` is the path of libmdsal.so; the default is the value
+    of MDSAL_LIBRARY, or else libmdsal.so in the folder of this module, or else the one that the system finds."""
+
+    def __init__(self, script: Any, library: str | None = None):
+        super().__init__(library)
+        text = bytes_of(script)
+        self._call("open", "open", text, len(text))
+
+    def __enter__(self) -> Broker:
+        return self
+
+    def step(self, client: int, step: Any) -> str:
+        """Makes the client's next step, and returns the text of its reply."""
+        if not 0 <= client < CLIENTS:
+            raise BadClient(f"client {client}")
+        text = bytes_of(step)
+        return self._call(f"client {client}: {text.decode(errors='replace')}", "step", client, text, len(text)).decode()
+
+    def steps(self, client: int, steps: Iterable[Any]) -> list[str]:
+        """Makes the steps of a client in turn, and returns the texts of their replies. A step that is not made ends it by its exception, whose `replies`
+        are those before it."""
+        told: list[str] = []
+        for it in steps:
+            try:
+                told.append(self.step(client, it))
+            except Error as why:
+                why.replies = told
+                raise
+        return told
+
+    def call(self, client: int, step: Any) -> Reply:
+        """Makes the client's next step, and returns its reply with its fields. A refused step raises an exception of `mdsal.refusals`."""
+        return reply_of(self.step(client, step))
+
+    def frames(self, above: int) -> bytes:
+        """Returns the frames of the commits of the controller's own domain with numbers above this one, in order."""
+        return self._call(f"frames above {above}", "frames", number(above, 64))
+
+    def epoch(self, newest: int) -> None:
+        """Begins the next epoch, if nothing is pending and the newest commit has this number: then the caller has its frame. The trees stay; the log,
+        the report, and what clients had end."""
+        self._call(f"epoch at {newest}", "epoch", number(newest, 64))
+
+    @property
+    def version(self) -> int:
+        """The present version of the schema, as the script counts: keep it beside the frames, for `StandBy.lead`."""
+        return self._number("version")
+
+    @property
+    def left(self) -> int:
+        """How many shared calls the log has room for."""
+        return self._number("left")
+
+    def report(self) -> str:
+        """Returns the report of all steps so far, as `mdsal sim` writes it."""
+        return self._call("report", "report").decode()
+
+    def update(self, function: Callable[[Transaction], Kept], client: int = 0, slot: int = 0, domain: int = 0) -> Kept:
+        """Calls the function with a transaction and commits it; after a conflict it begins again. It uses this slot of the client, which no other thread
+        may use meanwhile. Returns what the function returned. If the transaction is refused by a rule it raises `NotCommitted`; if the function raises,
+        the transaction is cancelled."""
+        while True:
+            transaction = Transaction(self, client, slot, domain)
+            try:
+                kept = function(transaction)
+            except BaseException:
+                with contextlib.suppress(Error):
+                    transaction.cancel()
+                raise
+            outcome = transaction.commit()
+            if isinstance(outcome, Done):
+                return kept
+            if not isinstance(outcome, Conflict):
+                raise NotCommitted(outcome)
+
+
+class StandBy(Session):
+    """A stand-by of the broker of a script. Its stream begins with the frame of the number `first`, which has all rows: a snapshot."""
+
+    def __init__(self, script: Any, first: int = 0, library: str | None = None):
+        super().__init__(library)
+        text = bytes_of(script)
+        self._call("follow", "follow", text, len(text), number(first, 64))
+
+    def __enter__(self) -> StandBy:
+        return self
+
+    def feed(self, piece: bytes) -> None:
+        """Takes the next bytes of the stream, cut anywhere."""
+        self._call("feed", "feed", piece, len(piece))
+
+    def lead(self, version: int = 0) -> Broker:
+        """Returns the broker that it becomes, by this version of the schema; this object is closed then. Else it stays as it is."""
+        with self._lock:
+            self._call(f"lead by version {version}", "lead", number(version, 32))
+            broker = Broker.__new__(Broker)
+            broker._library, broker._lock, broker._room = self._library, threading.RLock(), self._room
+            broker._handle, self._handle, self._room = self._handle, Handle(), ctypes.create_string_buffer(4096)
+        return broker
+
+
+class Transaction:
+    """An open transaction in a slot of a client. Stores are "config" and "operational"."""
+
+    def __init__(self, broker: Broker, client: int = 0, slot: int = 0, domain: int = 0, mode: str = "rw"):
+        self.broker, self.client, self.slot = broker, client, slot
+        broker.call(client, ["begin", slot, domain, mode])
+
+    def _call(self, word: str, *words: Any) -> Reply:
+        return self.broker.call(self.client, [word, self.slot, *words])
+
+    def read(self, store: str, path: str) -> Any:
+        """Returns what is at the path, or `None` if there is nothing."""
+        it = self._call("read", store, path)
+        assert isinstance(it, Data)
+        return it.value
+
+    def exists(self, store: str, path: str) -> bool:
+        it = self._call("exists", store, path)
+        assert isinstance(it, Truth)
+        return it.value
+
+    def put(self, store: str, path: str, value: Any) -> None:
+        self._call("put", store, path, value)
+
+    def merge(self, store: str, path: str, value: Any) -> None:
+        self._call("merge", store, path, value)
+
+    def delete(self, store: str, path: str) -> None:
+        self._call("delete", store, path)
+
+    def cancel(self) -> None:
+        self._call("cancel")
+
+    def commit(self) -> Outcome:
+        """Submits the transaction, and returns what became of it."""
+        self._call("submit")
+        it = self._call("settle")
+        assert isinstance(it, Outcome)
+        return it

@@ -1,0 +1,79 @@
+//! Frames, an epoch and a stand-by that leads. The frames are those of docs/FORMATS.md, "Frames", written by hand.
+use mdsal::{Broker, Error, Outcome, StandBy, Store};
+
+const OPENING: &str = "00000041\n{\"commit\":0,\"config\":[],\"operational\":[]}\n";
+const FIRST: &str = "00000052\n{\"commit\":1,\"config\":[[[0,1],\"x\"]],\"operational\":[]}\n";
+const SECOND: &str = "00000052\n{\"commit\":2,\"config\":[[[0,1],\"y\"]],\"operational\":[]}\n";
+const PATH: &str = "/plain:box/a";
+
+/// Puts the text in a transaction of client 0.
+fn put(broker: &mut Broker, text: &str) -> Result<Outcome, Error> {
+    let step = format!(r#"["put",0,"config","{PATH}","{text}"]"#);
+    let (_, outcome) = broker.update(0, |it| it.made(0, &step))?;
+    Ok(outcome)
+}
+
+/// A transaction of client 1 that another one overtakes: it is a conflict, and `update` makes it again.
+fn overtaken(broker: &mut Broker) -> Result<(), Error> {
+    let mut turns = 0;
+    let (seen, outcome) = broker.update(1, |it| {
+        let seen = it.made(1, format!(r#"["read",0,"config","{PATH}"]"#))?;
+        turns += 1;
+        if turns == 1 {
+            assert_eq!(put(it, "y")?, Outcome::Done { commit: 2 });
+        }
+        it.made(1, format!(r#"["put",0,"config","{PATH}","y"]"#))?;
+        Ok(seen)
+    })?;
+    assert_eq!((turns, seen.as_str()), (2, r#"data "y""#));
+    assert_eq!(outcome, Outcome::Done { commit: 3 });
+    Ok(())
+}
+
+fn led(mut standby: StandBy) -> Result<Broker, Error> {
+    assert_eq!(
+        standby.feed(FIRST),
+        Err(Error::BadStream("bad stream gap 3 1\n".to_owned()))
+    );
+    let (standby, error) = standby.lead(1).err().expect("the script has no version 1");
+    assert_eq!(error, Error::BadVersion);
+    standby.lead(0).map_err(|(_, error)| error)
+}
+
+fn main() -> Result<(), Error> {
+    let mut broker = Broker::open("{}")?;
+    let mut standby = StandBy::open("{}", 0)?;
+    assert_eq!(standby.snapshot(), Err(Error::Empty));
+    assert_eq!(broker.snapshot()?, OPENING.as_bytes());
+    standby.feed(broker.snapshot()?)?;
+    assert_eq!(put(&mut broker, "x")?, Outcome::Done { commit: 1 });
+    overtaken(&mut broker)?;
+    assert!(
+        broker
+            .frames(0)?
+            .starts_with([FIRST, SECOND].concat().as_bytes())
+    );
+    standby.feed([FIRST, SECOND].concat())?;
+    assert_eq!(
+        (standby.number(), broker.number(), broker.left()),
+        (2, 3, 1000000 - 12)
+    );
+    assert_eq!(standby.look(Store::Config, PATH)?, r#"data "y""#);
+    assert_eq!(broker.look(Store::Operational, PATH)?, "absent");
+    assert_eq!(broker.epoch(2), Err(Error::NotNewest));
+    broker.epoch(3)?;
+    assert_eq!(broker.frames(2), Err(Error::Gone));
+    assert!(matches!(
+        broker.made(0, r#"["submit",0]"#),
+        Err(Error::Refused(_))
+    ));
+    let mut leader = led(standby)?;
+    assert_eq!(
+        (leader.number(), leader.version(), leader.left()),
+        (2, 0, 1000000)
+    );
+    put(&mut leader, "z")?;
+    assert_eq!(leader.number(), 3);
+    println!("streams: ok");
+    Ok(())
+}

@@ -2,7 +2,7 @@
 ghost use Rattle.std.specs.Prelude.{◌≡◌, [], IfOk};
 ghost use Rattle.sal_session.specs.Sessions as spec;
 ghost use Rattle.sal_session.specs.Texts.{IsLine, told};
-ghost use Rattle.sal_session.specs.declared.role.Role.TheVariants.{Broker, Closed as None};
+ghost use Rattle.sal_session.specs.declared.role.Role.TheVariants.{Broker, Closed};
 ghost use Rattle.sal_prepare.specs.Statuses.{line_of};
 
 use crate::numbers::{BROKEN, DONE, IS_STANDBY, NO_MEMORY, NOT_OPEN, number_of};
@@ -122,7 +122,7 @@ fn with(broker: Embedded, alloc: Global) -> Session
 
 /// A session with neither, and with the line of the status.
 pub(crate) fn without(alloc: Global, status: &Status) -> Session
-    ensures role { result.role ≡ None }
+    ensures role { result.role ≡ Closed }
     ensures text { IsLine (line_of status.now) (told result.text) }
 {
     Session {

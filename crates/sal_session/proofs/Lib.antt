@@ -1,2 +1,3 @@
+mod Kept
 mod Led
 pub mod Sendable

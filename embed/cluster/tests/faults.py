@@ -1,0 +1,248 @@
+"""The fault test: three members of etcd, three nodes, clients that record what they are told, and faults, one each round.
+
+    faults.py FOLDER ROUNDS [--seed N] [--wrong KIND] [--only FAULT,..] [--seize]
+
+After the rounds, with all that failed back: each node reaches the tail and has the same trees, the audit of the log has no fault, and the checker, a
+process of its own, finds one order for all that clients were told. With a KIND of wrong.py the nodes are wrong, and the test ends with the first
+round whose history has no order. The histories stay in FOLDER/history. It needs MDSAL_LIBRARY.
+"""
+from __future__ import annotations
+
+import argparse
+import collections
+import os
+import random
+import shutil
+import signal
+import subprocess
+import sys
+import time
+from collections.abc import Callable
+
+from auditor import Auditor
+from checker import FOUND
+from mdsal_cluster.client import NoLeader, look_at
+from mdsal_cluster.local import Members, Nodes, until
+from mdsal_cluster.log import Log
+from workload import Looker, Reader, Recorder, World, Writer
+
+HERE = os.path.dirname(os.path.abspath(__file__))
+SCRIPT = f"{HERE}/registers.json"
+WRITERS = 5
+
+
+class Faults:
+    """The faults, each as a method: it makes the fault, waits for the next acknowledged write, and mends it."""
+
+    def __init__(self, members: Members, nodes: Nodes, world: World, seed: int):
+        self.members, self.nodes, self.world, self.random = members, nodes, world, random.Random(seed)
+        self.took: dict[str, list[float | None]] = collections.defaultdict(list)
+        self.found: list[str] = []
+
+    def kinds(self) -> dict[str, Callable[[], float | None]]:
+        return {
+            "kill": self.kill, "pause": self.pause, "member": self.member, "stuck": self.stuck, "both": self.both, "follower": self.follower,
+            "quorum": self.quorum,
+        }
+
+    def recovered(self, since: float) -> float | None:
+        """Returns the seconds until a write that was sent after the fault is acknowledged."""
+        return time.monotonic() - since if until(lambda: self.world.begun > since) else None
+
+    def leader(self) -> str:
+        name = until(self.nodes.leader)
+        if not name:
+            raise RuntimeError("nobody leads")
+        return name
+
+    def kill(self) -> float | None:
+        """The leader is killed."""
+        name, since = self.leader(), time.monotonic()
+        self.nodes.kill(name)
+        took = self.recovered(since)
+        self.nodes.start(name)
+        return took
+
+    def pause(self) -> float | None:
+        """The leader is stopped, longer than its lease, and then goes on as if nothing had been."""
+        name, since = self.leader(), time.monotonic()
+        self.nodes.signal(name, signal.SIGSTOP)
+        took = self.recovered(since)
+        time.sleep(self.random.uniform(0.0, 1.0))
+        self.nodes.signal(name, signal.SIGCONT)
+        return took
+
+    def member(self) -> float | None:
+        """A member of etcd is killed."""
+        i, since = self.random.randrange(3), time.monotonic()
+        self.members.kill(i)
+        took = self.recovered(since)
+        time.sleep(self.random.uniform(0.0, 0.5))
+        self.members.start(i)
+        return took
+
+    def stuck(self) -> float | None:
+        """A member of etcd is stopped: its connections stay, and are silent."""
+        i, since = self.random.randrange(3), time.monotonic()
+        self.members.signal(i, signal.SIGSTOP)
+        took = self.recovered(since)
+        time.sleep(self.random.uniform(0.0, 1.5))
+        self.members.signal(i, signal.SIGCONT)
+        return took
+
+    def both(self) -> float | None:
+        """The leader and a member of etcd are killed."""
+        name, i, since = self.leader(), self.random.randrange(3), time.monotonic()
+        self.members.kill(i)
+        self.nodes.kill(name)
+        took = self.recovered(since)
+        self.nodes.start(name)
+        self.members.start(i)
+        return took
+
+    def follower(self) -> float | None:
+        """A follower is killed."""
+        leader, since = self.leader(), time.monotonic()
+        name = self.random.choice([it for it in self.nodes.addresses if it != leader])
+        self.nodes.kill(name)
+        took = self.recovered(since)
+        self.nodes.start(name)
+        return took
+
+    def quorum(self) -> float | None:
+        """Two of three members are killed: nothing may be acknowledged until one is back."""
+        i = self.random.randrange(3)
+        gone = (i, (i + 1) % 3)
+        for it in gone:
+            self.members.kill(it)
+        time.sleep(0.2)
+        since = time.monotonic()
+        time.sleep(self.random.uniform(0.0, 2.0))
+        if self.world.begun > since:
+            self.found.append("a write was acknowledged without a quorum")
+        for it in gone:
+            self.members.start(it)
+        return self.recovered(time.monotonic())
+
+    def round(self, kind: str) -> bool:
+        """Makes a fault of the kind. Returns whether all came back."""
+        time.sleep(self.random.uniform(0.3, 1.2))
+        took = self.kinds()[kind]()
+        self.took[kind].append(took)
+        self.members.wait()
+        back = until(lambda: all(self.nodes.status(it).get("number") is not None for it in self.nodes.addresses))
+        print(f"{kind}: {'never' if took is None else f'{took:.2f} s'}, {self.world.count} acknowledged{'' if back else ', a node is not back'}", flush=True)
+        return bool(back) and took is not None
+
+
+class Test:
+    """A run of the test, in its folder."""
+
+    def __init__(self, words: argparse.Namespace):
+        self.words, self.folder, self.history = words, words.folder, f"{words.folder}/history"
+        shutil.rmtree(self.history, ignore_errors=True)
+        os.makedirs(self.history)
+        with open(SCRIPT, "rb") as file:
+            self.script = file.read()
+        self.members = Members(f"{self.folder}/etcd")
+        self.nodes = Nodes(f"{self.folder}/nodes", SCRIPT, self.members.endpoints)
+        self.nodes.more = ["--lease", "1", "--epoch", "1500", "--snapshot", "100", *(["--seize"] if words.seize else [])]
+        if words.wrong:
+            self.nodes.program = [sys.executable, "-B", f"{HERE}/wrong.py", words.wrong]
+        self.world = World(self.history)
+        self.auditor = Auditor(Log(self.members.endpoints, self.script), self.script)
+
+    def crowd(self) -> list[Recorder]:
+        addresses, seed = list(self.nodes.addresses.values()), self.words.seed
+        writers = [Writer(f"w{i}", self.world, seed, addresses) for i in range(WRITERS)]
+        return [*writers, Reader("r1", self.world, seed, addresses), Reader("r2", self.world, seed, addresses[1:]), Looker("l1", self.world, seed, addresses)]
+
+    def run(self) -> int:
+        """Runs the rounds, and returns the exit status."""
+        try:
+            self.auditor.start()
+            self.nodes.start()
+            faults = Faults(self.members, self.nodes, self.world, self.words.seed)
+            faults.leader()
+            crowd = self.crowd()
+            for it in crowd:
+                it.start()
+            start, problems = time.monotonic(), self.rounds(faults)
+            self.world.stop.set()
+            for it in crowd:
+                it.join(15)
+            problems += faults.found + (self.ending() if not problems else [])
+            self.tell(faults, time.monotonic() - start)
+        finally:
+            self.auditor.stop = True
+            self.nodes.stop()
+            self.members.stop()
+        problems += self.auditor.faults + self.world.broken
+        for it in problems[:20]:
+            print("FAULT:", it)
+        is_bad = self.checked(quiet=False) or problems
+        print("the fault test: faults were found" if is_bad else "the fault test: all is well", flush=True)
+        return FOUND if is_bad else 0
+
+    def rounds(self, faults: Faults) -> list[str]:
+        """Makes the faults. Returns what did not come back. Wrong nodes are done with as soon as they are found."""
+        kinds = self.words.only.split(",") if self.words.only else list(faults.kinds())
+        for number in range(self.words.rounds):
+            kind = faults.random.choice(kinds)
+            print(f"{number}: ", end="")
+            is_back = faults.round(kind)
+            if self.words.wrong and (not is_back or self.auditor.faults or self.checked(quiet=True)):
+                return [f"found in round {number}"]
+            if not is_back:
+                return [f"round {number}: not all came back"]
+        return []
+
+    def checked(self, quiet: bool) -> int:
+        """Runs the checker, and returns its exit status."""
+        words = [sys.executable, "-B", f"{HERE}/checker.py", self.history]
+        return subprocess.call(words, stdout=subprocess.DEVNULL if quiet else None)
+
+    def ending(self) -> list[str]:
+        """The last read, and the trees of all nodes and of the auditor at its number. Returns what is wrong."""
+        last = Reader("last", self.world, self.words.seed, list(self.nodes.addresses.values()))
+        try:
+            _, number = last.read(is_last=True)
+        except NoLeader:
+            return ["nobody answers the last read"]
+        trees = until(lambda: self.trees(number), 20.0)
+        if not trees:
+            return [f"not all replicas reach {number}: {[self.nodes.status(it) for it in self.nodes.addresses]}, the auditor {self.auditor.standby.number}"]
+        return [] if all(it == trees[0] for it in trees) else [f"the trees after {number} differ"]
+
+    def trees(self, number: int) -> list[object] | None:
+        """Returns both trees of each node and of the auditor, once they have this number."""
+        if self.auditor.standby.number != number:
+            return None
+        looks = [[look_at(it, store, "/", number) for store in ("config", "operational")] for it in self.nodes.addresses.values()]
+        own = [(self.auditor.standby.look(store, "/"), number) for store in ("config", "operational")]
+        return [*looks, own] if all(it for pair in looks for it in pair) else None
+
+    def tell(self, faults: Faults, seconds: float) -> None:
+        auditor = self.auditor
+        loads = sum(self.nodes.status(it).get("loads", 0) for it in self.nodes.addresses)
+        print(f"{seconds:.0f} s, {self.world.count} acknowledged, {len(auditor.terms)} terms, {auditor.appends} appends of {auditor.bytes} bytes, "
+              f"{auditor.snapshots} snapshots, {loads} loads by the nodes as they are now")
+        for kind, took in faults.took.items():
+            good = sorted(it for it in took if it is not None) or [0.0]
+            missing = len(took) - len(good)
+            print(f"{kind}: {len(took)} times; least {good[0]:.2f}, middle {good[len(good) // 2]:.2f}, most {good[-1]:.2f} s{f', {missing} never' if missing > 0 else ''}")
+
+
+def main() -> int:
+    words = argparse.ArgumentParser()
+    words.add_argument("folder")
+    words.add_argument("rounds", type=int)
+    words.add_argument("--seed", type=int, default=1)
+    words.add_argument("--wrong")
+    words.add_argument("--only")
+    words.add_argument("--seize", action="store_true")
+    return Test(words.parse_args()).run()
+
+
+if __name__ == "__main__":
+    sys.exit(main())

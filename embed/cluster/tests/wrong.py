@@ -1,0 +1,46 @@
+"""Nodes that are wrong on purpose: the tests must find each of them.
+
+    wrong.py KIND, and then the words of a node
+
+| kind | what it does wrong |
+|---|---|
+| `unfenced` | appends without a comparison |
+| `no-term` | appends after a comparison of the tail alone |
+| `early` | answers before the append |
+| `stale` | answers reads without a comparison of the term |
+"""
+import sys
+
+from mdsal_cluster.etcd import Json, has_value
+from mdsal_cluster.leader import Batch, Leader
+from mdsal_cluster.log import Log, Tail
+from mdsal_cluster.node import Node, words_of
+
+
+class Unfenced(Log):
+    def fences(self, term: int, above: Tail) -> list[Json]:
+        return []
+
+
+class NoTerm(Log):
+    def fences(self, term: int, above: Tail) -> list[Json]:
+        return [has_value(self.tail, str(above))]
+
+
+class Stale(Log):
+    def confirm(self, term: int) -> None:
+        pass
+
+
+class Early(Leader):
+    def commit(self, batch: Batch) -> None:
+        self.tell(batch)
+        self.write(batch)
+
+
+LOGS: dict[str, type[Log]] = {"unfenced": Unfenced, "no-term": NoTerm, "stale": Stale}
+LEADERS: dict[str, type[Leader]] = {"early": Early}
+
+if __name__ == "__main__":
+    KIND = sys.argv[1]
+    Node(words_of(sys.argv[2:]), LOGS.get(KIND, Log), LEADERS.get(KIND, Leader)).run()

@@ -74,6 +74,7 @@ class Election(threading.Thread):
         for events in watcher.watch((self.log.leader, self.log.leader + "\0"), revision + 1, PATIENCE):
             if events:
                 return
+        time.sleep(PATIENCE / 10)
 
     def _campaign(self, over: int) -> None:
         if not self.may_lead:

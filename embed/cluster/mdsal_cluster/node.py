@@ -30,6 +30,7 @@ from .port import Answerer, Port
 from .replica import Replica
 
 SILENCE = 5.0  # seconds after which a watch without news asks another member
+PAUSE = 0.02  # seconds between two watches
 
 
 def say(*words: Any) -> None:
@@ -107,14 +108,12 @@ class Node:
             try:
                 if self.replica.standby or self.replica.load():
                     self._watch()
-                else:
-                    time.sleep(0.05)
+                time.sleep(PAUSE)
             except (Refused, mdsal.Error) as why:
                 say("begins again with the snapshot:", why)
                 self.replica.drop()
             except Unknown as why:
                 say("etcd:", why)
-                time.sleep(0.05)
 
     def _watch(self) -> None:
         keys = self.replica.log.entries_after(0)

@@ -146,7 +146,7 @@ class Test:
             self.script = file.read()
         self.members = Members(f"{self.folder}/etcd")
         self.nodes = Nodes(f"{self.folder}/nodes", SCRIPT, self.members.endpoints)
-        self.nodes.more = ["--lease", "1", "--epoch", "1500", "--snapshot", "100", *(["--seize"] if words.seize else [])]
+        self.nodes.more = ["--lease", "1", "--epoch", "500", "--snapshot", "100", *(["--seize"] if words.seize else [])]
         if words.wrong:
             self.nodes.program = [sys.executable, "-B", f"{HERE}/wrong.py", words.wrong]
         self.world = World(self.history)

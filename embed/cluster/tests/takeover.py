@@ -67,6 +67,7 @@ class Takeover:
         self.check("the next leader has what was committed, and nothing that was open", self.value("/m:box/a") == "x" and self.value("/m:box/n:b") == "y")
         self.put("/m:box/n:b", "z")
         again = self.client.steps([["upgrade", 1]]).replies
+        print(again)
         self.check("it leads in the upgraded version", again == ["refused wrong-version 1"] and self.value("/m:box/n:b") == "z")
         self.nodes.start(first)
         number = self.client.look("config", "/")[1]

@@ -69,7 +69,7 @@ class Writer(Recorder):
 
     def __init__(self, name: str, world: World, seed: int, addresses: list[str]):
         super().__init__(name, world, seed)
-        self.link, self.count = Client(addresses, 6.0), 0
+        self.link, self.count = Client(addresses, 2.0), 0
 
     def once(self) -> None:
         names = self.random.sample(NAMES, self.random.randrange(1, 4))

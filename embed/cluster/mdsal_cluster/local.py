@@ -39,7 +39,7 @@ def free_ports(count: int) -> list[int]:
             it.close()
 
 
-def until(what: Callable[[], Any], seconds: float = 30.0) -> Any:
+def until(what: Callable[[], Any], seconds: float = 60.0) -> Any:
     """Returns the first answer that counts as true, or nothing after the time."""
     end = time.monotonic() + seconds
     while time.monotonic() < end:
@@ -97,7 +97,7 @@ class Members:
         except OSError:
             return False
 
-    def wait(self, seconds: float = 40.0) -> None:
+    def wait(self, seconds: float = 120.0) -> None:
         """Waits until all members that run are healthy."""
         if not until(lambda: all(self.is_healthy(i) for i in self.running), seconds):
             raise RuntimeError(f"etcd does not get healthy: see {self.folder}")

@@ -128,8 +128,11 @@ class Node:
             return
         newest, _ = self.replica.log.newest_snapshot()
         if number - newest >= self.words.snapshot:
-            say(f"snapshot of {number}:", self.replica.log.keep_snapshot(*self.replica.snapshot()))
             newest = number
+            try:
+                say(f"snapshot of {number}:", self.replica.log.keep_snapshot(*self.replica.snapshot()))
+            except mdsal.BadExport as why:
+                say("no snapshot:", why)
         self.snapshot_at = newest + self.words.snapshot + random.randrange(self.words.snapshot)
 
     # ---- leading
@@ -163,6 +166,7 @@ class Node:
                 say(f"{self.words.name} leads no more: {type(why).__name__} {why}")
             self.replica.drop()
             self.election.release()
+            time.sleep(PAUSE)
 
 
 def words_of(arguments: list[str]) -> argparse.Namespace:

@@ -12,6 +12,15 @@ LINE = 4_000_000  # bytes of the longest request
 Answerer = Callable[[dict[str, Any]], dict[str, Any] | None]
 
 
+def request_of(line: bytes) -> dict[str, Any]:
+    """Returns the request of a line; an empty one, which has no good answer, if it is none."""
+    try:
+        it = json.loads(line)
+    except (ValueError, RecursionError):
+        return {}
+    return it if isinstance(it, dict) else {}
+
+
 class Port(socketserver.ThreadingTCPServer):
     """A port whose connections each have a thread, and an answerer of their own. One that answers nothing closes the connection."""
 
@@ -35,11 +44,11 @@ class Connection(socketserver.StreamRequestHandler):
         answerer = self.server.connected()
         try:
             while (line := self.rfile.readline(LINE)).endswith(b"\n"):
-                answer = answerer(json.loads(line))
+                answer = answerer(request_of(line))
                 if answer is None:
                     return
                 self.wfile.write(json.dumps(answer).encode() + b"\n")
-        except (OSError, ValueError):
+        except OSError:
             return
 
 

@@ -80,18 +80,24 @@ class Checker:
         """Returns all faults."""
         self.find_versions()
         self.check_versions()
+        has_versions = not self.faults
         self.check_numbers()
+        self.check_looks()
         self.check_conflicts()
-        if not self.faults:
+        if has_versions:
             self.draw()
             self.find_cycle()
         return self.faults
 
     # ---- which writes there were
 
+    def fault(self, text: str) -> None:
+        if text not in self.faults:
+            self.faults.append(text)
+
     def made(self, name: str, version: int, by: str) -> None:
         if self.by.setdefault((name, version), by) != by:
-            self.faults.append(f"two writes made {name} {version}: {self.by[name, version]} and {by}")
+            self.fault(f"two writes made {name} {version}: {self.by[name, version]} and {by}")
 
     def find_versions(self) -> None:
         """Collects who made which version, from what was done and from what was seen. A write without an answer landed if a version of it was seen:
@@ -116,34 +122,36 @@ class Checker:
         for (name, version), by in self.by.items():
             it = self.writes.get(by)
             if not it:
-                self.faults.append(f"{name} {version} is by {by}, whom nobody knows")
+                self.fault(f"{name} {version} is by {by}, whom nobody knows")
             elif it.answer == "conflict":
-                self.faults.append(f"{name} {version} is by {by}, which was refused")
+                self.fault(f"{name} {version} is by {by}, which was refused")
             elif it.wrote.get(name) != version:
-                self.faults.append(f"{name} {version} is by {by}, which did not write it")
+                self.fault(f"{name} {version} is by {by}, which did not write it")
             if version > 1 and (name, version - 1) not in self.by:
-                self.faults.append(f"{name} has a version {version} and no version {version - 1}")
+                self.fault(f"{name} has a version {version} and no version {version - 1}")
 
     # ---- what has no place in any order
 
     def check_numbers(self) -> None:
-        """Numbers of commits are given once, and the newest number counts all commits."""
+        """Numbers of commits are given once, and the last read's number counts all commits."""
         seen: dict[int, str] = {}
         for it in self.writes.values():
             if it.answer == "done" and seen.setdefault(it.number, it.line["id"]) != it.line["id"]:
-                self.faults.append(f"commit {it.number} is both {seen[it.number]} and {it.line['id']}")
-        least: dict[str, int] = {}
+                self.fault(f"commit {it.number} is both {seen[it.number]} and {it.line['id']}")
+        for it in self.requests:
+            if it.line.get("is_last") and it.number != len(self.landed):
+                self.fault(f"{len(self.landed)} writes landed, and the last commit is {it.number}")
+
+    def check_looks(self) -> None:
+        """A look is not below the number that was asked for, nor below what the client was told by this node before."""
+        told: dict[tuple[str, str], int] = collections.defaultdict(int)
         for it in sorted((it for it in self.requests if it.do == "look"), key=lambda it: it.sent):
-            key = f"{it.line['client']} at {it.line['at']}"
+            key = it.line["client"], it.line["at"]
             if it.number < it.line["min"]:
-                self.faults.append(f"{it}: below its least number {it.line['min']}")
-            if it.number < least.get(key, 0):
-                self.faults.append(f"{it}: client {key} was told of commit {least[key]} before")
-            least[key] = max(least.get(key, 0), it.number)
-        ends = [it for it in self.requests if it.do == "read" and it.line.get("is_last")]
-        for it in ends:
-            if it.number != len(self.landed):
-                self.faults.append(f"{len(self.landed)} writes landed, and the last commit is {it.number}")
+                self.fault(f"{it}: below its least number {it.line['min']}")
+            if it.number < told[key]:
+                self.fault(f"{it}: it was told of commit {told[key]} before")
+            told[key] = max(told[key], it.number)
 
     def check_conflicts(self) -> None:
         """A conflict has a reason: another write made a next version of what it read, and was sent before the conflict was told."""
@@ -152,7 +160,7 @@ class Checker:
                 continue
             following = [self.by.get((name, version + 1)) for name, (version, _) in it.values.items()]
             if not any(by and by in self.writes and self.writes[by].sent < it.told for by in following):
-                self.faults.append(f"{it}: nothing explains the conflict")
+                self.fault(f"{it}: nothing explains the conflict")
 
     # ---- the order
 
@@ -225,7 +233,7 @@ class Checker:
             if len(found) == CYCLES:
                 break
         if left:
-            self.faults.append("no order: " + "; ".join(min(found, key=len)))
+            self.fault("no order: " + "; ".join(min(found, key=len)))
 
     @staticmethod
     def trimmed(left: set[int], edges: list[list[Edge]]) -> set[int]:

@@ -29,6 +29,7 @@ from workload import Looker, Reader, Recorder, World, Writer
 HERE = os.path.dirname(os.path.abspath(__file__))
 SCRIPT = f"{HERE}/registers.json"
 WRITERS = 5
+FOUND_IT = "the checker found it"
 
 
 class Faults:
@@ -42,7 +43,7 @@ class Faults:
     def kinds(self) -> dict[str, Callable[[], float | None]]:
         return {
             "kill": self.kill, "pause": self.pause, "member": self.member, "stuck": self.stuck, "both": self.both, "follower": self.follower,
-            "quorum": self.quorum,
+            "quorum": self.quorum, "blackout": self.blackout,
         }
 
     def recovered(self, since: float) -> float | None:
@@ -111,17 +112,28 @@ class Faults:
 
     def quorum(self) -> float | None:
         """Two of three members are killed: nothing may be acknowledged until one is back."""
+        return self.without_quorum(None)
+
+    def blackout(self) -> float | None:
+        """Two of three members are killed, and then the leader."""
+        return self.without_quorum(self.leader())
+
+    def without_quorum(self, leader: str | None) -> float | None:
         i = self.random.randrange(3)
         gone = (i, (i + 1) % 3)
         for it in gone:
             self.members.kill(it)
         time.sleep(0.2)
         since = time.monotonic()
-        time.sleep(self.random.uniform(0.0, 2.0))
+        time.sleep(self.random.uniform(0.2, 2.0))
+        if leader:
+            self.nodes.kill(leader)
         if self.world.begun > since:
             self.found.append("a write was acknowledged without a quorum")
         for it in gone:
             self.members.start(it)
+        if leader:
+            self.nodes.start(leader)
         return self.recovered(time.monotonic())
 
     def round(self, kind: str) -> bool:
@@ -151,11 +163,25 @@ class Test:
             self.nodes.program = [sys.executable, "-B", f"{HERE}/wrong.py", words.wrong]
         self.world = World(self.history)
         self.auditor = Auditor(Log(self.members.endpoints, self.script), self.script)
+        self.crowd: list[Recorder] = []
+        self.crowds = 0
 
-    def crowd(self) -> list[Recorder]:
-        addresses, seed = list(self.nodes.addresses.values()), self.words.seed
-        writers = [Writer(f"w{i}", self.world, seed, addresses) for i in range(WRITERS)]
-        return [*writers, Reader("r1", self.world, seed, addresses), Reader("r2", self.world, seed, addresses[1:]), Looker("l1", self.world, seed, addresses)]
+    def start_crowd(self) -> None:
+        """Starts clients, under new names each time."""
+        self.crowds += 1
+        addresses, seed, mark = list(self.nodes.addresses.values()), self.words.seed, "" if self.crowds == 1 else f".{self.crowds}"
+        writers: list[Recorder] = [Writer(f"w{i}{mark}", self.world, seed, addresses) for i in range(WRITERS)]
+        readers = [Reader(f"r{i}{mark}", self.world, seed, addresses[i:]) for i in range(2)]
+        self.crowd = [*writers, *readers, Looker(f"l{mark}", self.world, seed, addresses)]
+        self.world.stop.clear()
+        for it in self.crowd:
+            it.start()
+
+    def stop_crowd(self) -> None:
+        """Waits until each client has its last answer: only then its history is whole."""
+        self.world.stop.set()
+        for it in self.crowd:
+            it.join()
 
     def run(self) -> int:
         """Runs the rounds, and returns the exit status."""
@@ -164,13 +190,9 @@ class Test:
             self.nodes.start()
             faults = Faults(self.members, self.nodes, self.world, self.words.seed)
             faults.leader()
-            crowd = self.crowd()
-            for it in crowd:
-                it.start()
+            self.start_crowd()
             start, problems = time.monotonic(), self.rounds(faults)
-            self.world.stop.set()
-            for it in crowd:
-                it.join(15)
+            self.stop_crowd()
             problems += faults.found + (self.ending() if not problems else [])
             self.tell(faults, time.monotonic() - start)
         finally:
@@ -188,11 +210,15 @@ class Test:
         """Makes the faults. Returns what did not come back. Wrong nodes are done with as soon as they are found."""
         kinds = self.words.only.split(",") if self.words.only else list(faults.kinds())
         for number in range(self.words.rounds):
-            kind = faults.random.choice(kinds)
+            if number % len(kinds) == 0:
+                faults.random.shuffle(kinds)
             print(f"{number}: ", end="")
-            is_back = faults.round(kind)
-            if self.words.wrong and (not is_back or self.auditor.faults or self.checked(quiet=True)):
-                return [f"found in round {number}"]
+            is_back = faults.round(kinds[number % len(kinds)])
+            if self.words.wrong:
+                self.stop_crowd()
+                if self.checked(quiet=True) == FOUND:
+                    return [f"{FOUND_IT} in round {number}"]
+                self.start_crowd()
             if not is_back:
                 return [f"round {number}: not all came back"]
         return []

@@ -8,17 +8,21 @@ import json
 import os
 import subprocess
 import sys
+import threading
 from collections.abc import Callable
 from typing import Any
 
 from checker import FOUND
 from mdsal import Refused
 from mdsal_cluster.client import Client, Ended, NoLeader, Unanswered, asked, look_at
+from mdsal_cluster.election import address_of
 from mdsal_cluster.local import NODE, Members, Nodes, until
+from mdsal_cluster.port import Link
 
 FIRST = "module m { namespace 'urn:m'; prefix m; container box { leaf a { type string; } leaf n { type uint32; } } }"
 SECOND = "module n { namespace 'urn:n'; prefix n; import m { prefix m; } augment /m:box { leaf b { type string; } } }"
-SCRIPT = {"modules": [FIRST], "upgrades": [[SECOND]], "rules": 2, "reads": "checked"}
+THIRD = "module o { namespace 'urn:o'; prefix o; import m { prefix m; } augment /m:box { leaf c { type string; } } }"
+SCRIPT = {"modules": [FIRST], "upgrades": [[SECOND], [THIRD]], "rules": 2, "reads": "checked"}
 OPEN = [["begin", 0, 0, "rw"], ["put", 0, "config", "/m:box/a", "lost"]]
 
 
@@ -53,6 +57,23 @@ class Takeover:
         self.check("a name of a later version is refused", fails((Refused,), self.put, "/m:box/n:b", "y"))
         self.check("a request that is none is said to be one", asked(self.client.at, {"steps": 1}) == {"error": "bad request"})
         self.check("and so is a store that is none", asked(self.client.at, {"look": ["x", "/"]}) == {"error": "bad request"})
+        link = Link(address_of(self.client.at), 5.0)
+        link.socket.sendall(b"{\n[1]\n")
+        self.check("and so are lines that are no requests", [link.file.readline() for _ in range(2)] == [b'{"error": "bad request"}\n'] * 2)
+        link.close()
+
+    def two_clients(self) -> None:
+        """Two clients count up at the same time: conflicts begin again."""
+        def count(link: Client) -> None:
+            for _ in range(20):
+                link.update(lambda it: it.put("config", "/m:box/n", (it.read("config", "/m:box/n") or 0) + 1))
+
+        threads = [threading.Thread(target=count, args=(Client(list(self.nodes.addresses.values()), 15.0),)) for _ in range(2)]
+        for it in threads:
+            it.start()
+        for it in threads:
+            it.join()
+        self.check("two clients count to 40 together", self.value("/m:box/n") == 40)
 
     def upgrade_and_kill(self) -> None:
         self.check("the leader upgrades", self.client.steps([["upgrade", 1]]).replies == ["ok"])
@@ -66,9 +87,8 @@ class Takeover:
         self.check("and so does a listener", fails((Ended,), self.client.steps, [["take", 0]], True))
         self.check("the next leader has what was committed, and nothing that was open", self.value("/m:box/a") == "x" and self.value("/m:box/n:b") == "y")
         self.put("/m:box/n:b", "z")
-        again = self.client.steps([["upgrade", 1]]).replies
-        print(again)
-        self.check("it leads in the upgraded version", again == ["refused wrong-version 1"] and self.value("/m:box/n:b") == "z")
+        self.check("it leads in the upgraded version", self.value("/m:box/n:b") == "z" and fails((Refused,), self.put, "/m:box/o:c", "w"))
+        self.check("and upgrades to the next one", self.client.steps([["upgrade", 1]]).replies == ["ok"] and not self.put("/m:box/o:c", "w"))
         self.nodes.start(first)
         number = self.client.look("config", "/")[1]
         looks = until(lambda: self.looks("/m:box/n:b", number))
@@ -95,7 +115,7 @@ class Takeover:
             other.update(lambda it: it.put("config", "/m:box/n", n))
         self.check("a transaction that an epoch ended is said to have ended", fails((Ended,), self.client.steps, [["submit", 0], ["settle", 0]], True))
         self.put("/m:box/a", "after")
-        self.check("and the next one is made", self.value("/m:box") == {"a": "after", "n": 99, "n:b": "z"})
+        self.check("and the next one is made", self.value("/m:box") == {"a": "after", "n": 99, "n:b": "z", "o:c": "w"})
 
     def other_script(self, folder: str, endpoints: list[str]) -> None:
         with open(f"{folder}/other.json", "w", encoding="utf-8") as file:
@@ -121,6 +141,7 @@ def main(folder: str) -> int:
         nodes.start()
         test = Takeover(nodes)
         test.told_before_an_upgrade()
+        test.two_clients()
         test.upgrade_and_kill()
         test.follower()
         test.epoch()

@@ -53,6 +53,15 @@ BAD = {
         a 1 2 write w1 x0 x1 done 1
         b 3 4 read x0 0
     """),
+    "a lost write, with another answer between": ("no order", """
+        a 1 2 write w1 x0 x1 done 1
+        c 1 4 read y0 0
+        b 5 6 read x0 0
+    """),
+    "a read of a value that its number does not have": ("no order", """
+        a 1 4 write w1 x0 x1 done 1
+        b 2 3 read x1:w1 0
+    """),
     "a stale read": ("no order", """
         a 1 2 write w1 x0 x1 done 1
         b 3 4 write w2 x1:w1 x2 done 2
@@ -127,7 +136,7 @@ BAD = {
         a 1 2 write w1 x0 x1 done 1
         b 3 4 look x0 1 0
     """),
-    "looks of one client that go back": ("was told of commit 1 before", """
+    "looks of one client that go back": ("it was told of commit 1 before", """
         a 1 2 write w1 x0 x1 done 1
         b 3 4 look x1:w1 1 0
         b 5 6 look x0 0 0

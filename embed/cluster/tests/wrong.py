@@ -4,7 +4,7 @@
 
 | kind | what it does wrong |
 |---|---|
-| `unfenced` | appends without a comparison |
+| `unfenced` | appends, and answers reads, without a comparison |
 | `no-term` | appends after a comparison of the tail alone |
 | `early` | answers before the append |
 | `stale` | answers reads without a comparison of the term |
@@ -17,11 +17,6 @@ from mdsal_cluster.log import Log, Tail
 from mdsal_cluster.node import Node, words_of
 
 
-class Unfenced(Log):
-    def fences(self, term: int, above: Tail) -> list[Json]:
-        return []
-
-
 class NoTerm(Log):
     def fences(self, term: int, above: Tail) -> list[Json]:
         return [has_value(self.tail, str(above))]
@@ -30,6 +25,11 @@ class NoTerm(Log):
 class Stale(Log):
     def confirm(self, term: int) -> None:
         pass
+
+
+class Unfenced(Stale):
+    def fences(self, term: int, above: Tail) -> list[Json]:
+        return []
 
 
 class Early(Leader):

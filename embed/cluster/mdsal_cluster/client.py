@@ -216,4 +216,7 @@ def main(words: list[str]) -> int:
 if __name__ == "__main__":
     if len(sys.argv) < 3:
         sys.exit(__doc__)
-    sys.exit(main(sys.argv[1:]))
+    try:
+        sys.exit(main(sys.argv[1:]))
+    except (errors.Error, NoLeader, Unanswered, ValueError) as it:
+        sys.exit(f"{type(it).__name__}: {it}")

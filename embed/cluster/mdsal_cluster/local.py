@@ -1,6 +1,6 @@
 """Members of etcd, and nodes, on this machine: for a first look, and for the tests.
 
-    python3 -m mdsal_cluster.local FOLDER SCRIPT      three members and three nodes, until Enter; it needs MDSAL_LIBRARY
+    python3 -m mdsal_cluster.local FOLDER SCRIPT      three members and three nodes, until an empty line; it needs MDSAL_LIBRARY
 
 They are child processes on loopback, with their data in the folder, and are ended by their process ids.
 """
@@ -141,18 +141,38 @@ class Nodes:
             self.kill(name)
 
 
+def told(nodes: Nodes) -> None:
+    """Prints where the nodes are, and who leads."""
+    leader = until(nodes.leader)
+    for name, address in nodes.addresses.items():
+        process = nodes.running.get(name)
+        state = "is not running" if not process else f"is process {process.pid}{', and leads' if name == leader else ''}"
+        print(f"node {name} at {address} {state}")
+
+
+def command(nodes: Nodes, line: str) -> None:
+    """Does what a line says: kill NAME, start NAME, or the state of all."""
+    word, _, name = line.strip().partition(" ")
+    if word == "kill" and name in nodes.running:
+        nodes.kill(name)
+    elif word == "start" and name in nodes.addresses and name not in nodes.running:
+        nodes.start(name)
+    told(nodes)
+
+
 def main(folder: str, script: str) -> int:
     members = Members(f"{folder}/etcd")
     nodes = Nodes(folder, script, members.endpoints)
     try:
         nodes.start()
-        if not until(nodes.leader):
-            raise SystemExit(f"nobody leads: see {folder}/a.log")
-        for name, address in nodes.addresses.items():
-            print(f"node {name} at {address}, process {nodes.running[name].pid}{', leads' if name == nodes.leader() else ''}")
+        told(nodes)
         print(f"etcd at {','.join(members.endpoints)}")
-        print(f"clients take {','.join(nodes.addresses.values())}. Enter ends it.", flush=True)
-        sys.stdin.readline()
+        print(f"export NODES={','.join(nodes.addresses.values())}")
+        print("kill NAME and start NAME end and start a node, an empty line ends all", flush=True)
+        for line in sys.stdin:
+            if not line.strip():
+                break
+            command(nodes, line)
     finally:
         nodes.stop()
         members.stop()

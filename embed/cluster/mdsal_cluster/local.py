@@ -52,8 +52,11 @@ def until(what: Callable[[], Any], seconds: float = 60.0) -> Any:
 
 def started(words: Sequence[str], log: str) -> subprocess.Popen[bytes]:
     """Starts a child that writes to the file. The system ends it if this process is killed."""
+    def die_with_parent() -> None:
+        LIBC.prctl(DEATH_SIGNAL, signal.SIGKILL)
+
     with open(log, "ab") as file:
-        return subprocess.Popen(words, stdin=subprocess.DEVNULL, stdout=file, stderr=file, preexec_fn=lambda: LIBC.prctl(DEATH_SIGNAL, signal.SIGKILL))
+        return subprocess.Popen(words, stdin=subprocess.DEVNULL, stdout=file, stderr=file, preexec_fn=die_with_parent)
 
 
 def end(process: subprocess.Popen[bytes]) -> None:
@@ -80,7 +83,8 @@ class Members:
         client, peer = self.endpoints[i], self.peers[i]
         cluster = ",".join(f"m{k}={it}" for k, it in enumerate(self.peers))
         words = ["etcd", "--name", f"m{i}", "--data-dir", f"{self.folder}/m{i}", "--logger", "zap", "--log-level", "error", *TIMES, *COMPACTION]
-        words += ["--listen-client-urls", client, "--advertise-client-urls", client, "--listen-peer-urls", peer, "--initial-advertise-peer-urls", peer]
+        words += ["--listen-client-urls", client, "--advertise-client-urls", client]
+        words += ["--listen-peer-urls", peer, "--initial-advertise-peer-urls", peer]
         words += ["--initial-cluster", cluster, "--initial-cluster-state", "new", "--initial-cluster-token", os.path.basename(self.folder)]
         self.running[i] = started(words, f"{self.folder}/m{i}.log")
 

@@ -25,7 +25,7 @@ import mdsal
 from .election import Election, address_of
 from .etcd import Etcd, Refused, Unknown
 from .leader import Ended, Leader, NoAnswer, NotLeading, Session
-from .log import Fenced, Log, OtherScript, Tail
+from .log import Fenced, Log, OtherScript
 from .port import Answerer, Port
 from .replica import Replica
 
@@ -48,8 +48,8 @@ class Node:
         self.log = logs(endpoints, self.script, words.prefix)
         self.replica = Replica(Log(endpoints, self.script, words.prefix), self.script)
         patience = max(0.3, words.lease / 3)
-        how = {"may_lead": not words.reader, "seizes": words.seize}
-        self.election = Election(Log(endpoints, self.script, words.prefix, patience), {"name": words.name, "address": words.address}, words.lease, how)
+        me, how = {"name": words.name, "address": words.address}, {"may_lead": not words.reader, "seizes": words.seize}
+        self.election = Election(Log(endpoints, self.script, words.prefix, patience), me, words.lease, how)
         self.watcher = Etcd(endpoints)
         self.election.won = self.watcher.wake
         self.leader: Leader | None = None

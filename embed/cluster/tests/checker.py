@@ -53,7 +53,8 @@ class Request:
 
     def __str__(self) -> str:
         what = f"{self.do} {self.line['id']}" if self.do == "write" else self.do
-        seen = ", ".join(f"{name} {version}" + (f" to {self.wrote[name]}" if name in self.wrote else "") for name, (version, _) in sorted(self.values.items()))
+        wrote = {name: f" to {version}" for name, version in self.wrote.items()}
+        seen = ", ".join(f"{name} {version}{wrote.get(name, '')}" for name, (version, _) in sorted(self.values.items()))
         return f"{what} of client {self.line['client']} ({seen}; {self.answer or 'told'} {self.number})"
 
 

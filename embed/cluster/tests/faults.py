@@ -143,7 +143,8 @@ class Faults:
         self.took[kind].append(took)
         self.members.wait()
         back = until(lambda: all(self.nodes.status(it).get("number") is not None for it in self.nodes.addresses))
-        print(f"{kind}: {'never' if took is None else f'{took:.2f} s'}, {self.world.count} acknowledged{'' if back else ', a node is not back'}", flush=True)
+        told = "never" if took is None else f"{took:.2f} s"
+        print(f"{kind}: {told}, {self.world.count} acknowledged{'' if back else ', a node is not back'}", flush=True)
         return bool(back) and took is not None
 
 
@@ -237,7 +238,8 @@ class Test:
             return ["nobody answers the last read"]
         trees = until(lambda: self.trees(number), 20.0)
         if not trees:
-            return [f"not all replicas reach {number}: {[self.nodes.status(it) for it in self.nodes.addresses]}, the auditor {self.auditor.standby.number}"]
+            nodes = [self.nodes.status(it).get("number") for it in self.nodes.addresses]
+            return [f"not all replicas reach {number}: the nodes {nodes}, the auditor {self.auditor.standby.number}"]
         return [] if all(it == trees[0] for it in trees) else [f"the trees after {number} differ"]
 
     def trees(self, number: int) -> list[object] | None:
@@ -254,9 +256,9 @@ class Test:
         print(f"{seconds:.0f} s, {self.world.count} acknowledged, {len(auditor.terms)} terms, {auditor.appends} appends of {auditor.bytes} bytes, "
               f"{auditor.snapshots} snapshots, {loads} loads by the nodes as they are now")
         for kind, took in faults.took.items():
-            good = sorted(it for it in took if it is not None) or [0.0]
-            missing = len(took) - len(good)
-            print(f"{kind}: {len(took)} times; least {good[0]:.2f}, middle {good[len(good) // 2]:.2f}, most {good[-1]:.2f} s{f', {missing} never' if missing > 0 else ''}")
+            good = sorted(it for it in took if it is not None)
+            if good:
+                print(f"{kind}: {len(took)} times, {good[0]:.2f} to {good[-1]:.2f} s, middle {good[len(good) // 2]:.2f}")
 
 
 def main() -> int:

@@ -29,7 +29,8 @@ TAKEOVERS = 6
 
 def steps_of(name: str, version: int) -> list[list]:
     """The steps of a commit that writes a register of its own: no conflict, and a tree of constant size."""
-    return [["begin", 0, 0, "rw"], ["put", 0, "config", REGISTER.format(name), {"name": name, "version": version, "by": name}], ["submit", 0], ["settle", 0]]
+    put = ["put", 0, "config", REGISTER.format(name), {"name": name, "version": version, "by": name}]
+    return [["begin", 0, 0, "rw"], put, ["submit", 0], ["settle", 0]]
 
 
 def commit(broker: mdsal.Broker, client: int, version: int) -> None:
@@ -144,8 +145,8 @@ def late_follower(log: Log, entries: int) -> None:
     replica.lead(tail)
     marks.append(time.monotonic())
     made, written, loaded, epoch, lead = (second - first for first, second in zip(marks, marks[1:]))
-    print(f"{entries} entries: a snapshot of {len(frames)} bytes made in {made:.2f} s, written in {written:.2f} s, loaded by a late follower in {loaded:.2f} s; "
-          f"the next epoch in {epoch:.2f} s; a stand-by leads in {lead:.2f} s", flush=True)
+    print(f"{entries} entries: a snapshot of {len(frames)} bytes made in {made:.2f} s, written in {written:.2f} s, loaded by a late follower in "
+          f"{loaded:.2f} s; the next epoch in {epoch:.2f} s; a stand-by leads in {lead:.2f} s", flush=True)
 
 
 def main(folder: str) -> None:

@@ -85,7 +85,7 @@ class Takeover:
         told = fails((Ended, Unanswered), self.client.steps, [["submit", 0], ["settle", 0]], True)
         self.check("an open transaction ends with its leader", told)
         self.check("and so does a listener", fails((Ended,), self.client.steps, [["take", 0]], True))
-        self.check("the next leader has what was committed, and nothing that was open", self.value("/m:box/a") == "x" and self.value("/m:box/n:b") == "y")
+        self.check("the next leader has what was committed, and nothing that was open", self.value("/m:box") == {"a": "x", "n": 40, "n:b": "y"})
         self.put("/m:box/n:b", "z")
         self.check("it leads in the upgraded version", self.value("/m:box/n:b") == "z" and fails((Refused,), self.put, "/m:box/o:c", "w"))
         self.check("and upgrades to the next one", self.client.steps([["upgrade", 1]]).replies == ["ok"] and not self.put("/m:box/o:c", "w"))
@@ -104,7 +104,8 @@ class Takeover:
         number = self.client.look("config", "/")[1]
         told = asked(other, {"steps": [["begin", 0, 0, "rw"]]}) or {}
         self.check("a follower names the leader", told.get("error") == "not the leader" and told["leader"] == self.nodes.addresses[leader or ""])
-        self.check("and so it does where a linearizable look is asked for", (asked(other, {"look": ["config", "/"]}) or {}).get("error") == "not the leader")
+        look = asked(other, {"look": ["config", "/"]}) or {}
+        self.check("and so it does where a linearizable look is asked for", look.get("error") == "not the leader")
         behind = asked(other, {"look": ["config", "/"], "min": number + 1000})
         self.check("and says where it is, if it is behind", behind == {"error": "behind", "number": number})
 
@@ -113,7 +114,8 @@ class Takeover:
         other = Client(list(self.nodes.addresses.values()), 15.0)
         for n in range(100):
             other.update(lambda it: it.put("config", "/m:box/n", n))
-        self.check("a transaction that an epoch ended is said to have ended", fails((Ended,), self.client.steps, [["submit", 0], ["settle", 0]], True))
+        told = fails((Ended,), self.client.steps, [["submit", 0], ["settle", 0]], True)
+        self.check("a transaction that an epoch ended is said to have ended", told)
         self.put("/m:box/a", "after")
         self.check("and the next one is made", self.value("/m:box") == {"a": "after", "n": 99, "n:b": "z", "o:c": "w"})
 

@@ -162,8 +162,8 @@ def line_of(text: str) -> dict:
     line = {"client": client, "at": "n", "sent": int(sent), "told": number_of(told), "do": "read" if do == "last" else do, "is_last": do == "last"}
     if do == "write":
         name, read, wrote, answer, number = words
-        versions = {it: version for it, (version, _) in values_of(wrote).items()}
-        return {**line, "id": name, "read": values_of(read), "wrote": versions, "answer": None if answer == "-" else answer, "number": number_of(number)}
+        line |= {"id": name, "read": values_of(read), "wrote": {it: version for it, (version, _) in values_of(wrote).items()}}
+        return {**line, "answer": None if answer == "-" else answer, "number": number_of(number)}
     return {**line, "values": values_of(words[0]), "number": int(words[1]), "min": int(words[-1])}
 
 

@@ -77,13 +77,17 @@ class Leader:
         with self._lock:
             if self.is_over:
                 raise NotLeading
-            made = Made(self._look(request) if "look" in request else self._steps(session, request))
+            made = self.waiting(self._look(request) if "look" in request else self._steps(session, request))
             self._made.append(made)
             self._lock.notify()
         made.done.wait()
         if not made.is_durable:
             raise NoAnswer
         return made.answer
+
+    def waiting(self, answer: dict[str, Any]) -> Made:
+        """Returns an answer that may not be told yet."""
+        return Made(answer)
 
     def _look(self, request: dict[str, Any]) -> dict[str, Any]:
         value = self.broker.look(*request["look"])
@@ -113,23 +117,21 @@ class Leader:
         try:
             while True:
                 self._under_way = self._taken()
-                self.commit(self._under_way)
+                self._write(self._under_way)
+                self._tell(self._under_way)
         finally:
             self._end()
 
-    def commit(self, batch: Batch) -> None:
-        """Makes a batch durable, and then answers it."""
-        self.write(batch)
-        self.tell(batch)
-
-    def write(self, batch: Batch) -> None:
+    def _write(self, batch: Batch) -> None:
+        """Makes a batch durable. Without frames the term alone is compared."""
         if batch.tail > self.tail:
             self.log.append(self.term, self.tail, batch.tail, batch.frames)
             self.tail = batch.tail
         else:
             self.log.confirm(self.term)
 
-    def tell(self, batch: Batch) -> None:
+    @staticmethod
+    def _tell(batch: Batch) -> None:
         for it in batch.made:
             it.answer.setdefault("number", batch.tail.number)
             it.is_durable = True

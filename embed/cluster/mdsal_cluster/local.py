@@ -112,10 +112,11 @@ class Members:
 
 
 class Nodes:
-    """Nodes over the members. `program` is the command of a node without its words; `more` are further words of each."""
+    """Nodes over the members. `program` is the command of a node without its words; `more` are further words of each; `endpoints` has those of etcd
+    for each node."""
 
     def __init__(self, folder: str, script: str, endpoints: Sequence[str], names: str = "abc"):
-        self.folder, self.script, self.endpoints = folder, script, endpoints
+        self.folder, self.script, self.endpoints = folder, script, {name: endpoints for name in names}
         self.addresses = {name: f"127.0.0.1:{port}" for name, port in zip(names, free_ports(len(names)))}
         self.program, self.more = NODE, ["--lease", "1"]
         self.running: dict[str, subprocess.Popen[bytes]] = {}
@@ -123,7 +124,7 @@ class Nodes:
 
     def start(self, *names: str) -> None:
         for name in names or self.addresses:
-            words = [*self.program, name, self.addresses[name], self.script, ",".join(self.endpoints), *self.more]
+            words = [*self.program, name, self.addresses[name], self.script, ",".join(self.endpoints[name]), *self.more]
             self.running[name] = started(words, f"{self.folder}/{name}.log")
 
     def kill(self, name: str) -> None:

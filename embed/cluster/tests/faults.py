@@ -24,6 +24,7 @@ from checker import FOUND
 from mdsal_cluster.client import NoLeader, look_at
 from mdsal_cluster.local import Members, Nodes, until
 from mdsal_cluster.log import Log
+from wires import Wires
 from workload import Looker, Reader, Recorder, World, Writer
 
 HERE = os.path.dirname(os.path.abspath(__file__))
@@ -37,13 +38,15 @@ class Faults:
 
     def __init__(self, members: Members, nodes: Nodes, world: World, seed: int):
         self.members, self.nodes, self.world, self.random = members, nodes, world, random.Random(seed)
+        self.wires = {name: Wires(members.endpoints) for name in nodes.addresses}
+        nodes.endpoints = {name: it.endpoints for name, it in self.wires.items()}
         self.took: dict[str, list[float | None]] = collections.defaultdict(list)
         self.found: list[str] = []
 
     def kinds(self) -> dict[str, Callable[[], float | None]]:
         return {
             "kill": self.kill, "pause": self.pause, "member": self.member, "stuck": self.stuck, "both": self.both, "follower": self.follower,
-            "quorum": self.quorum, "blackout": self.blackout,
+            "quorum": self.quorum, "blackout": self.blackout, "cut": self.cut,
         }
 
     def recovered(self, since: float) -> float | None:
@@ -71,6 +74,16 @@ class Faults:
         took = self.recovered(since)
         time.sleep(self.random.uniform(0.0, 1.0))
         self.nodes.signal(name, signal.SIGCONT)
+        return took
+
+    def cut(self) -> float | None:
+        """The leader is cut off from etcd, but not from its clients; what it sent meanwhile arrives late."""
+        name, since = self.leader(), time.monotonic()
+        self.wires[name].cut()
+        until(lambda: any(self.nodes.status(it).get("leads") for it in self.nodes.addresses if it != name))
+        took = self.recovered(since)
+        time.sleep(self.random.uniform(0.0, 1.0))
+        self.wires[name].mend()
         return took
 
     def member(self) -> float | None:
@@ -188,8 +201,8 @@ class Test:
         """Runs the rounds, and returns the exit status."""
         try:
             self.auditor.start()
-            self.nodes.start()
             faults = Faults(self.members, self.nodes, self.world, self.words.seed)
+            self.nodes.start()
             faults.leader()
             self.start_crowd()
             start, problems = time.monotonic(), self.rounds(faults)

@@ -10,9 +10,10 @@
 | `stale` | answers reads without a comparison of the term |
 """
 import sys
+from typing import Any
 
 from mdsal_cluster.etcd import Json, has_value
-from mdsal_cluster.leader import Batch, Leader
+from mdsal_cluster.leader import Leader, Made
 from mdsal_cluster.log import Log, Tail
 from mdsal_cluster.node import Node, words_of
 
@@ -33,9 +34,10 @@ class Unfenced(Stale):
 
 
 class Early(Leader):
-    def commit(self, batch: Batch) -> None:
-        self.tell(batch)
-        self.write(batch)
+    def waiting(self, answer: dict[str, Any]) -> Made:
+        it = Made({"number": self.broker.number, **answer}, is_durable=True)
+        it.done.set()
+        return it
 
 
 LOGS: dict[str, type[Log]] = {"unfenced": Unfenced, "no-term": NoTerm, "stale": Stale}

@@ -104,10 +104,10 @@ class Leader:
         return {"replies": replies, "base": self.base, "era": self.era}
 
     def _step(self, client: int, step: Any) -> str:
-        """Returns the text of a reply; `error NAME` if there is none."""
+        """Returns the text of a reply; `error NAME` if there is none. The steps before and after it are made all the same."""
         try:
             return self.broker.step(client, step)
-        except (mdsal.Error, MemoryError) as why:
+        except (mdsal.Error, MemoryError, ValueError) as why:
             return f"error {type(why).__name__}"
 
     # ---- the thread that appends

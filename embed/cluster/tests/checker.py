@@ -33,6 +33,7 @@ from typing import Any
 Values = dict[str, tuple[int, str]]
 Edge = tuple[int, str]
 CYCLES = 50  # of which the shortest is printed
+SHOWN = 5  # faults that are printed
 FOUND = 3  # the exit status of a test that found faults; an error of its own ends it with 1
 
 
@@ -293,7 +294,7 @@ def main() -> int:
     lines = history_of(sys.argv[1])
     faults = Checker(lines).check()
     print(summary(lines))
-    for it in faults[:20]:
+    for it in faults[:SHOWN]:
         print("FAULT:", it)
     print("one order explains all that was told" if not faults else f"{len(faults)} faults")
     return FOUND if faults else 0

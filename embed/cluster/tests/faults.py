@@ -20,7 +20,7 @@ import time
 from collections.abc import Callable
 
 from auditor import Auditor
-from checker import FOUND
+from checker import FOUND, SHOWN
 from mdsal_cluster.client import NoLeader, look_at
 from mdsal_cluster.local import Members, Nodes, until
 from mdsal_cluster.log import Log
@@ -214,7 +214,7 @@ class Test:
             self.nodes.stop()
             self.members.stop()
         problems += self.auditor.faults + self.world.broken
-        for it in problems[:20]:
+        for it in problems[:SHOWN]:
             print("FAULT:", it)
         is_bad = self.checked(quiet=False) or problems
         print("the fault test: faults were found" if is_bad else "the fault test: all is well", flush=True)

@@ -14,6 +14,7 @@ from urllib.parse import urlsplit
 
 Json = dict[str, Any]
 TRIES = 100
+SLOWEST = 100_000  # bytes a second: a long request has so much more time than the timeout
 
 
 class Unknown(Exception):
@@ -127,9 +128,13 @@ class Etcd:
 
     def once(self, path: str, body: Json) -> Json:
         """Makes the request at one member. Raises `Unknown` if no answer came, `Refused` if it was not made."""
+        data = json.dumps(body).encode()
         try:
             self._link = self._link or self._connection(self.timeout)
-            self._link.request("POST", "/v3" + path, json.dumps(body).encode(), {"Content-Type": "application/json"})
+            if not self._link.sock:
+                self._link.connect()
+            self._link.sock.settimeout(self.timeout + len(data) / SLOWEST)
+            self._link.request("POST", "/v3" + path, data, {"Content-Type": "application/json"})
             answer = self._link.getresponse()
             text = answer.read()
         except (OSError, http.client.HTTPException) as why:

@@ -25,7 +25,7 @@ from typing import Callable, TypeVar
 
 from .etcd import Answer, Etcd, Json, Pair, Refused, Unknown, delete, end_of, get, has_value, is_absent, put, was_modified_at
 
-PART = 1_000_000  # bytes of a value: etcd refuses requests above 1.5 MB
+PART = 250_000  # bytes of a value: etcd refuses requests above 1.5 MB, and long ones delay all others
 PAGE = 50  # entries of one read
 PAUSE = 0.02  # seconds between tries without an answer
 Kept = TypeVar("Kept")

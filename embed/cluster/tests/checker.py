@@ -292,8 +292,9 @@ def summary(lines: list[dict[str, Any]]) -> str:
 
 def main() -> int:
     lines = history_of(sys.argv[1])
-    faults = Checker(lines).check()
-    print(summary(lines))
+    checker = Checker(lines)
+    faults = checker.check()
+    print(f"{summary(lines)}, of which {sum(it.answer is None for it in checker.landed)} are there")
     for it in faults[:SHOWN]:
         print("FAULT:", it)
     print("one order explains all that was told" if not faults else f"{len(faults)} faults")

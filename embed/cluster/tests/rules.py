@@ -117,7 +117,7 @@ class Rules:
         self.members.wait()
 
     def long_frames(self) -> None:
-        text = "long " * 500_000
+        text = "long " * 120_000
         self.leader.update(lambda it: it.put("config", REGISTER.format("y"), {"name": "y", "version": 1, "by": text}))
         frames = self.leader.frames(self.tail.number)
         self.append(self.a, self.third, self.leader)

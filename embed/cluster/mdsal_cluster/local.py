@@ -112,19 +112,18 @@ class Members:
 
 
 class Nodes:
-    """Nodes over the members. `program` is the command of a node without its words; `more` are further words of each; `endpoints` has those of etcd
-    for each node."""
+    """Nodes over the members. `programs` has the command of each node without its words, and `endpoints` those of etcd; `more` are further words."""
 
     def __init__(self, folder: str, script: str, endpoints: Sequence[str], names: str = "abc"):
         self.folder, self.script, self.endpoints = folder, script, {name: endpoints for name in names}
         self.addresses = {name: f"127.0.0.1:{port}" for name, port in zip(names, free_ports(len(names)))}
-        self.program, self.more = NODE, ["--lease", "1"]
+        self.programs, self.more = {name: NODE for name in names}, ["--lease", "1"]
         self.running: dict[str, subprocess.Popen[bytes]] = {}
         os.makedirs(folder, exist_ok=True)
 
     def start(self, *names: str) -> None:
         for name in names or self.addresses:
-            words = [*self.program, name, self.addresses[name], self.script, ",".join(self.endpoints[name]), *self.more]
+            words = [*self.programs[name], name, self.addresses[name], self.script, ",".join(self.endpoints[name]), *self.more]
             self.running[name] = started(words, f"{self.folder}/{name}.log")
 
     def kill(self, name: str) -> None:

@@ -4,7 +4,7 @@
 
 After the rounds, with all that failed back: each node reaches the tail and has the same trees, the audit of the log has no fault, and the checker, a
 process of its own, finds one order for all that clients were told. With a KIND of wrong.py the nodes are wrong, and the test ends with the first
-round whose history has no order. The histories stay in FOLDER/history. It needs MDSAL_LIBRARY.
+round whose history has no order. The histories stay in FOLDER/history. One of the nodes cuts into short parts. It needs MDSAL_LIBRARY.
 """
 from __future__ import annotations
 
@@ -29,6 +29,7 @@ from workload import Looker, Reader, Recorder, World, Writer
 
 HERE = os.path.dirname(os.path.abspath(__file__))
 SCRIPT = f"{HERE}/registers.json"
+WRONG = [sys.executable, "-B", f"{HERE}/wrong.py"]
 WRITERS = 5
 FOUND_IT = "the checker found it"
 
@@ -166,15 +167,17 @@ class Test:
 
     def __init__(self, words: argparse.Namespace):
         self.words, self.folder, self.history = words, words.folder, f"{words.folder}/history"
-        shutil.rmtree(self.history, ignore_errors=True)
+        for it in (self.history, f"{self.folder}/nodes"):
+            shutil.rmtree(it, ignore_errors=True)
         os.makedirs(self.history)
         with open(SCRIPT, "rb") as file:
             self.script = file.read()
         self.members = Members(f"{self.folder}/etcd")
         self.nodes = Nodes(f"{self.folder}/nodes", SCRIPT, self.members.endpoints)
         self.nodes.more = ["--lease", "1", "--epoch", "500", "--snapshot", "100", *(["--seize"] if words.seize else [])]
+        self.nodes.programs["c"] = [*WRONG, "parts"]
         if words.wrong:
-            self.nodes.program = [sys.executable, "-B", f"{HERE}/wrong.py", words.wrong]
+            self.nodes.programs = {name: [*WRONG, words.wrong] for name in self.nodes.addresses}
         self.world = World(self.history)
         self.auditor = Auditor(Log(self.members.endpoints, self.script), self.script)
         self.crowd: list[Recorder] = []

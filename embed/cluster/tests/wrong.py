@@ -1,4 +1,4 @@
-"""Nodes that are wrong on purpose: the tests must find each of them.
+"""Nodes that are wrong on purpose: the tests must find each of them. And one that is right, but cuts into short parts.
 
     wrong.py KIND, and then the words of a node
 
@@ -8,10 +8,12 @@
 | `no-term` | appends after a comparison of the tail alone |
 | `early` | answers before the append |
 | `stale` | answers reads without a comparison of the term |
+| `parts` | nothing: but most of its appends and snapshots go in parts |
 """
 import sys
 from typing import Any
 
+import mdsal_cluster.log
 from mdsal_cluster.etcd import Json, has_value
 from mdsal_cluster.leader import Leader, Made
 from mdsal_cluster.log import Log, Tail
@@ -45,4 +47,6 @@ LEADERS: dict[str, type[Leader]] = {"early": Early}
 
 if __name__ == "__main__":
     KIND = sys.argv[1]
+    if KIND == "parts":
+        mdsal_cluster.log.PART = 100
     Node(words_of(sys.argv[2:]), LOGS.get(KIND, Log), LEADERS.get(KIND, Leader)).run()

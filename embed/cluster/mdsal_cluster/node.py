@@ -7,7 +7,7 @@ ENDPOINTS are the URLs of the members of etcd, with commas. All nodes of a clust
     {"steps": [STEP, ..], "era": ERA}   the leader: makes the steps, and answers {"replies", "base", "era", "number"} when all of them are durable
     {"look": [STORE, PATH]}             the leader: {"value", "number"}, linearizable
     {"look": [STORE, PATH], "min": N}   any node: the same of a commit from N on, perhaps an old one; {"error": "behind", "number"} before
-    {"status": true}                    any node: {"name", "leads", "term", "number", "leader", ..}
+    {"status": true}                    any node: {"name", "leads", "term", "number", "leader", "epochs", ..}
 
 Else the answer is {"error": "not the leader", "leader": HOST:PORT}, {"error": "ended"}, {"error": "bad request"} or {"refused": WHY}: nothing was
 made. A connection that is closed without an answer leaves it open whether the steps were made.
@@ -98,7 +98,7 @@ class Node:
         leader, holder = self.leader, self.election.holder
         number = leader.tail.number if leader else self.replica.number
         it = {"name": self.words.name, "leads": bool(leader), "number": number, "loads": self.replica.loads, "since": self.since}
-        return {**it, "term": holder.term if holder else None, "leader": holder.address if holder else None}
+        return {**it, "term": holder.term if holder else None, "leader": holder.address if holder else None, "epochs": leader.era[1] if leader else 0}
 
     # ---- following
 

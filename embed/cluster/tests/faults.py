@@ -43,6 +43,7 @@ class Faults:
         nodes.endpoints = {name: it.endpoints for name, it in self.wires.items()}
         self.took: dict[str, list[float | None]] = collections.defaultdict(list)
         self.found: list[str] = []
+        self.epochs: dict[int, int] = {}  # of each term, as its leader said before a fault
 
     def kinds(self) -> dict[str, Callable[[], float | None]]:
         return {
@@ -153,6 +154,8 @@ class Faults:
     def round(self, kind: str) -> bool:
         """Makes a fault of the kind. Returns whether all came back."""
         time.sleep(self.random.uniform(0.3, 1.2))
+        status = self.nodes.status(self.leader())
+        self.epochs[status.get("term", 0)] = status.get("epochs", 0)
         took = self.kinds()[kind]()
         self.took[kind].append(took)
         self.members.wait()
@@ -174,7 +177,7 @@ class Test:
             self.script = file.read()
         self.members = Members(f"{self.folder}/etcd")
         self.nodes = Nodes(f"{self.folder}/nodes", SCRIPT, self.members.endpoints)
-        self.nodes.more = ["--lease", "1", "--epoch", "500", "--snapshot", "100", *(["--seize"] if words.seize else [])]
+        self.nodes.more = ["--lease", "1", "--epoch", "60", "--snapshot", "100", *(["--seize"] if words.seize else [])]
         self.nodes.programs["c"] = [*WRONG, "parts"]
         if words.wrong:
             self.nodes.programs = {name: [*WRONG, words.wrong] for name in self.nodes.addresses}
@@ -268,9 +271,8 @@ class Test:
 
     def tell(self, faults: Faults, seconds: float) -> None:
         auditor = self.auditor
-        loads = sum(self.nodes.status(it).get("loads", 0) for it in self.nodes.addresses)
         print(f"{seconds:.0f} s, {self.world.count} acknowledged, {len(auditor.terms)} terms, {auditor.appends} appends of {auditor.bytes} bytes, "
-              f"{auditor.snapshots} snapshots, {loads} loads by the nodes as they are now")
+              f"{auditor.snapshots} snapshots, at least {sum(faults.epochs.values())} epochs")
         for kind, took in faults.took.items():
             good = sorted(it for it in took if it is not None)
             if good:

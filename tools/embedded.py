@@ -262,6 +262,54 @@ def broker_moved(mdsal, wrong):
             wrong.append("a broker that moved")
 
 
+# ---- statuses
+
+# Names of errors in Rust and Python that are not those of the header.
+OTHER_NAMES = {"NotOpen": "Closed", "IsStandby": "IsStandBy", "NoMemory": "MemoryError"}
+
+
+def numbers_in(path, pattern):
+    """Returns the numbers that the pattern finds in the file of the repository, by name."""
+    with open(f"{ROOT}/{path}", encoding="utf-8") as file:
+        return {name: int(number) for name, number in re.findall(pattern, file.read(), re.M)}
+
+
+def header_statuses():
+    return numbers_in("embed/mdsal.h", r"^    MDSAL_([A-Z_]+) = (\d+)")
+
+
+def camel(name):
+    return "".join(it.capitalize() for it in name.split("_"))
+
+
+def statuses(folder, room, is_wrong=False):
+    """The header, the crates, the modules for Rust and Python have the same statuses under the same names."""
+    header = header_statuses()
+    if is_wrong:
+        header["UNTOLD"] = 99
+    crate = numbers_in("crates/sal_session/src/numbers.rt", r"^pub const ([A-Z_]+): u32 = (\d+);")
+    command = numbers_in("crates/sal_prepare/src/status.rt", r"Status::(\w+)(?: \{ \.\. \})? => (\d+),")
+    rust = numbers_in("embed/rust/src/lib.rs", r"^            (?=(?:\d+) => Error::(\w+))(\d+)")
+    python = {number: it.__name__ for number, it in library(folder).errors.FAULTS.items()}
+    for name, number in header.items():
+        told = command.get(camel(name)) if number < 21 and name not in crate else crate.get(name)
+        if name == "OK":
+            told = crate.pop("DONE")
+        same(f"the status {name} of the header, and that of its crate", told, number)
+        crate.pop(name, None)
+        if number and number < 21:
+            same(f"the status {name}, and the command's", command[camel(name)], number)
+        it = camel(name)
+        if number and python.pop(number, None) not in (it, OTHER_NAMES.get(it)):
+            raise Differs(f"the status {name} has another error in Python")
+        here = it if it in rust else OTHER_NAMES.get(it)
+        if here in rust:
+            same(f"the status {name} of the header, and that of Rust", rust.pop(here), number)
+    if crate or python or rust:
+        raise Differs(f"the header lacks {[*crate, *python.values(), *rust]}")
+    return f"{len(header)} statuses of the header are those of the crates and of the modules for Rust and Python"
+
+
 # ---- failing allocations
 
 STEPS = """0 ["listen",0,0,"config","/plain:box"]
@@ -306,11 +354,26 @@ def wanting(folder, room, is_wrong=False):
         statuses = [int(it) for it in lines[: len(STEPS) + 2]]
         for it in statuses[:-1]:
             counts[it] = counts.get(it, 0) + 1
+        stay_lost(n, statuses)
         remade(n, statuses, "\n".join(lines[len(STEPS) + 2 :]), folder, is_wrong)
         if done.returncode == 3:
+            for name in ("OK", "NO_MEMORY", "LOST", "UNTOLD", "BROKEN"):
+                if header_statuses()[name] not in counts:
+                    raise Differs(f"no allocation that fails gives the status {name}")
             told = ", ".join(f"{it} {counts[it]} times" for it in sorted(counts))
             return f"C: each of {n - 1} allocations failed in turn, and the reports are those of the steps that were made; statuses: {told}"
     raise Differs("there is no end of allocations")
+
+
+def stay_lost(n, statuses):
+    """A client that is lost answers so at each later step."""
+    lost = set()
+    for status, step in zip(statuses[1:-1], STEPS):
+        client = step.partition(" ")[0]
+        if client in lost and status != 26:
+            raise Differs(f"with allocation {n} failing client {client} is lost, and then answers {status}")
+        if status == 26:
+            lost.add(client)
 
 
 def remade(n, statuses, report, folder, is_wrong):

@@ -1,3 +1,4 @@
+pub mod Empty
 pub mod Texts
 pub use Rattle.sal_turn.proofs.AllJoined
 pub use Rattle.sal_hub.proofs.OneVersion

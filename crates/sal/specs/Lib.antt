@@ -4,6 +4,7 @@ pub mod Opening
 pub use Rattle.sal_broker.specs.Looks
 pub use Rattle.sal_broker.specs.Seats
 pub use Rattle.sal_broker.specs.Turns
+pub use Rattle.sal_update.specs.Updates
 pub use Rattle.sal_hub.specs.Answers
 pub use Rattle.sal_hub.specs.Begins
 pub use Rattle.sal_hub.specs.HubHistory

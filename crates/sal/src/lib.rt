@@ -9,6 +9,7 @@
 //! | `Hub` | the result of closing a broker: its log and its trees |
 //! | `Mode`, `Tx`, `ReadTx`, `WriteTx`, `TxFault` | transactions, and why a write or a read is refused |
 //! | `Receipt`, `Outcome`, `ClashKind`, `Rule` | a submission, and its outcome |
+//! | `update`, `Work`, `Tries`, `UpdateFault` | a transaction that begins again after a conflict |
 //! | `Chain`, `ListenerId`, `CallId` | the tokens of a chain, of a listener, of a request |
 //! | `Opened`, `Batch`, `Part`, `Change`, `CandidateKind`, `Mirror`, `MirrorFault` | a listener's snapshot and batches, and a copy that they update |
 //! | `Request`, `Note`, `NoteList` | a provider's request, and a subscriber's notifications |
@@ -19,7 +20,7 @@
 //! | `read_module`, `build`, `Stmt`, `StmtFault`, `BuildFault` | the two parts of `schema_of` |
 //! | `build_first`, `build_on`, `SchemaVersion` | the first version of a schema, and the next one of more modules, for `Device` and `Sal::upgrade` |
 //! | `Patterns`, `read_path`, `write_path`, `read_data`, `write_data`, `fits_rows` | paths as texts, and data as JSON |
-//! | `empty_device` | a device without data |
+//! | `empty_device`, `open_empty` | a device without data; a broker over it |
 //! | `is_for`, `is_place` | whether a transaction may put or merge these rows there, and whether it may delete there |
 //! | `draw_log` | how the clients of a hub affect each other, as a picture |
 //! | `what_is_read_is_readable` | does nothing: the law for the `requires` of `build` |
@@ -43,6 +44,7 @@
 //! |---|---|
 //! | `schema_of` | that of `read_module` for each text, and that of `build` |
 //! | `empty_device` | constant |
+//! | `open_empty` | that of `Sal::open` |
 //! | `is_for` | that of `fits_rows` and a walk along the path |
 //! | `is_place` | a walk along the path |
 //! | `draw_log` | that of `sal_draw_log` |
@@ -55,7 +57,7 @@ mod modules;
 mod picture;
 mod writes;
 
-pub use devices::empty_device;
+pub use devices::{empty_device, open_empty};
 pub use modules::{SchemaFault, schema_of};
 pub use picture::draw_log;
 pub use sal_broker::{Held, MAX_LOOKS, OPENING_NUMBER, Sal, Seat};
@@ -84,4 +86,5 @@ pub use sal_types::{
     Atom, Bytes, Cell, Duplicate, Keys, MAX_STEPS, NoMemory, Path, PathFault, Row, Seq, Step,
     Store, Str, Value,
 };
+pub use sal_update::{Tries, UpdateFault, Work, update};
 pub use writes::{is_for, is_place};

@@ -3,11 +3,20 @@ use denote.Param.Send.{IsSend, IsSync, sendable}
 use Rattle.std.proofs.Crossing.{crosses}
 use Rattle.std.proofs.MapsCrossing as maps
 use Rattle.sal_types.proofs.seq.Seq.TheSendSync as Seq-here
+use Rattle.sal_types.proofs.path.Path.TheSendSync as Path-here
+use Rattle.sal_types.proofs.value.Cell.TheSendSync as Cell-here
+use Rattle.sal_types.proofs.value.Step.TheSendSync as Step-here
+use Rattle.sal_types.proofs.value.Store.TheSendSync as Store-here
+use Rattle.sal_node.specs.contracts.node.Node as Node
+use Rattle.sal_node.proofs.node.Node.TheLaws.TheKnot as Node-knot
+use Rattle.sal_tree.specs.contracts.root.Root as Root
+use Rattle.sal_rowtree.specs.contracts.row_tree.RowTree as RowTree
+use Rattle.sal_listen.specs.contracts.mirror.Mirror as Mirror
+use Rattle.sal_hub.proofs.listener.ListenerId.TheSendSync as ListenerId-here
 use Rattle.sal_hub.proofs.chain.Chain.TheSendSync as Chain-here
 use Rattle.sal_hub.proofs.receipt.Receipt.TheSendSync as Receipt-here
 use Rattle.sal_hub.proofs.call_id.CallId.TheSendSync as CallId-here
 use Rattle.sal_script.proofs.reply.StepReply.TheSendSync as StepReply-here
-use Rattle.sal_client.proofs.follower.Follower.TheSendSync as Follower-here
 use Rattle.sal_client.proofs.slots.Slot.TheSendSync as Slot-here
 use Rattle.sal_client.proofs.rpcs.Invocation.TheSendSync as Invocation-here
 use Rattle.regex_class.proofs.Class.TheSendSync as Class-here
@@ -19,6 +28,7 @@ use Rattle.regex_literal.proofs.ladder.Ladder.TheSendSync as Ladder-here
 use Rattle.regex_literal.proofs.caseless.Caseless.TheSendSync as Caseless-here
 use Rattle.regex_extract.proofs.frames.Frame.TheSendSync as Frame-here
 use Rattle.regex_meta.proofs.plan.Role.TheSendSync as Role-here
+use Rattle.sal_client.specs.contracts.follower.Follower as Follower
 use Rattle.sal_client.specs.contracts.client.ClientState as ClientState
 use Rattle.sal_client.specs.contracts.run.ClientRun as ClientRun
 use Rattle.regex_hir.specs.contracts.hir.Hir as Hir
@@ -36,8 +46,26 @@ use Rattle.sal_json.specs.contracts.whole.Whole as Whole
 use Rattle.sal_json.specs.contracts.patterns.Patterns as Patterns
 use Rattle.sal_hub.proofs.Sendable.{Tx-send}
 
+Node-send : IsSend Node.the_row
+Node-send = search (Node-knot.crosses, Step-here.the_send, Step-here.the_sync, Cell-here.the_send, Cell-here.the_sync, crosses, maps.crosses, sendable) depth 40 fits 20000
+
+Node-sync : IsSync Node.the_row
+Node-sync = search (Node-knot.crosses, Step-here.the_send, Step-here.the_sync, Cell-here.the_send, Cell-here.the_sync, crosses, maps.crosses, sendable) depth 40 fits 20000
+
+Root-send : IsSend Root.the_row
+Root-send = search (Node-send, Node-sync, crosses, maps.crosses, sendable) depth 40 fits 20000
+
+RowTree-send : IsSend RowTree.the_row
+RowTree-send = search (Root-send, crosses, maps.crosses, sendable) depth 40 fits 20000
+
+Mirror-field_send : IsSend (Mirror.the_field).row
+Mirror-field_send = search (RowTree-send, crosses, maps.crosses, sendable) depth 40 fits 20000
+
+Follower-send : IsSend Follower.the_row
+Follower-send = search (ListenerId-here.the_field_send, Store-here.the_field_send, Path-here.the_send, Mirror-field_send, crosses, maps.crosses, sendable) depth 40 fits 20000
+
 ClientState-field_send : IsSend (ClientState.the_field).row
-ClientState-field_send = search (Slot-here.the_send, Tx-send, Receipt-here.the_send, Chain-here.the_send, Follower-here.the_send, CallId-here.the_send, Invocation-here.the_send, StepReply-here.the_send, crosses, maps.crosses, sendable) depth 40 fits 20000
+ClientState-field_send = search (Slot-here.the_send, Tx-send, Receipt-here.the_send, Chain-here.the_send, Follower-send, CallId-here.the_send, Invocation-here.the_send, StepReply-here.the_send, crosses, maps.crosses, sendable) depth 40 fits 20000
 
 pub ClientRun-field_send : IsSend (ClientRun.the_field).row
 ClientRun-field_send = search (ClientState-field_send, crosses, maps.crosses, sendable) depth 40 fits 20000

@@ -3,6 +3,7 @@ ghost use Rattle.std.specs.Prelude.{◌≡◌, IfOk};
 ghost use Rattle.sal_client.specs.Followers.{Advances};
 
 use crate::fault::LocalResult;
+use crate::wish::Target;
 use sal_hub::ListenerId;
 use sal_listen::{Mirror, MirrorFault};
 use sal_rows::{Batch, Opened};
@@ -22,18 +23,18 @@ pub struct Follower {
 impl Follower {
     /// The listener, with a mirror of its snapshot.
     pub(crate) fn of(
+        alloc: Global,
         id: ListenerId,
-        store: Store,
-        path: &Path,
+        target: &Target,
         opened: &Opened,
     ) -> Result<Self, NoMemory>
-        ensures { IfOk result (λ f. f ≡ record { id = id; store = store; path = path.now; mirror = record { version = opened.now.version; rows = opened.now.rows } }) }
+        ensures { IfOk result (λ f. f ≡ record { id = id; store = target.now.store; path = target.now.path; mirror = record { version = opened.now.version; rows = opened.now.rows } }) }
     {
-        let mirror = Mirror::open(opened)?;
-        let path = path.copy()?;
+        let mirror = Mirror::open(alloc, opened)?;
+        let path = target.path.copy()?;
         Ok(Follower {
             id,
-            store,
+            store: target.store,
             path,
             mirror,
         })
@@ -44,7 +45,6 @@ impl Follower {
         requires { self.mirror.version ≡ batch.now.from }
         ensures { IfOk result (Advances batch.now self) }
     {
-        let _ascending = self.mirror.rows().items();
         match self.mirror.take(alloc, batch) {
             Ok(()) => Ok(self),
             Err(MirrorFault::NoMemory) => Err(NoMemory),
@@ -53,11 +53,11 @@ impl Follower {
     }
 
     /// The reply with the mirror.
-    pub(crate) fn shown(&self) -> LocalResult
+    pub(crate) fn shown(&self, alloc: Global) -> LocalResult
         ensures { IfOk result (λ r. r ≡ StepReply.Mirror self.now.id.domain self.now.path self.now.mirror.version self.now.mirror.rows) }
     {
         let path = self.path.copy()?;
-        let rows = self.mirror.rows().copy()?;
+        let rows = self.mirror.rows(alloc)?;
         Ok(StepReply::Mirror {
             domain: self.id.domain(),
             path,

@@ -50,7 +50,7 @@ fn put_new(
 ) -> Result<(), NoMemory>
     ensures { OnOk result (held listeners.new ≡ set_slot slot (Some (record { id = id; store = target.now.store; path = target.now.path; mirror = record { version = opened.now.version; rows = opened.now.rows } })) (held listeners.old)) }
 {
-    let follower = Follower::of(id, target.store, &target.path, opened)?;
+    let follower = Follower::of(*listeners.allocator(), id, target, opened)?;
     fill_slot(listeners, slot, follower)
 }
 
@@ -173,7 +173,7 @@ impl ClientState {
     {
         match look_at(&self.listeners, slot) {
             None => Ok(refused(StepRefusal::EmptySlot)),
-            Some(follower) => follower.shown(),
+            Some(follower) => follower.shown(*self.listeners.allocator()),
         }
     }
 }

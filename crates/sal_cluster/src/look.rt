@@ -47,25 +47,6 @@ pub(crate) fn look_in_tree(
     }
 }
 
-/// The same in rows.
-pub(crate) fn look_in_rows(
-    alloc: Global,
-    reader: &Reader,
-    schemas: &[Arc<Schema>],
-    rows: &Rows,
-    path: &[u8],
-) -> Result<Str, LookFault>
-    ensures { Looks (tables_in schemas.now) reader.now rows.now path.now result }
-{
-    let Ok(text) = str::from_utf8(path) else {
-        return Err(LookFault::BadText);
-    };
-    match rows_reply(alloc, reader, rows, text) {
-        Ok(reply) => told(alloc, schemas, &reply),
-        Err(NoMemory) => Err(LookFault::NoMemory),
-    }
-}
-
 // The text of a reply.
 fn told(alloc: Global, schemas: &[Arc<Schema>], reply: &StepReply) -> Result<Str, LookFault>
     ensures { MatchResult result (λ text. text ≡ reply_text (tables_in schemas.now) reply.now) (λ fault. fault ≡ NoText) }
@@ -88,24 +69,6 @@ fn tree_reply(
         Ok(path) => {
             let rows = tree.rows(alloc, &path)?;
             Ok(read(path, rows))
-        }
-        Err(PathTextFault::NoMemory) => Err(NoMemory),
-        Err(fault) => Ok(refused(fault)),
-    }
-}
-
-fn rows_reply(
-    alloc: Global,
-    reader: &Reader,
-    rows: &Rows,
-    text: &str,
-) -> Result<StepReply, NoMemory>
-    ensures { IfOk result (λ reply. reply ≡ reply_of rows.now (read_path reader.now text.now)) }
-{
-    match reader.path(alloc, text) {
-        Ok(path) => {
-            let below = rows.under(&path)?;
-            Ok(read(path, below))
         }
         Err(PathTextFault::NoMemory) => Err(NoMemory),
         Err(fault) => Ok(refused(fault)),

@@ -12,10 +12,10 @@ ghost use Rattle.sal_follow.specs.Laws.{trees_held};
 ghost use Rattle.sal_follow.specs.Stream.{fresh_at, rows_held};
 ghost use Rattle.sal_prepare.specs.Resumed.{are_of_version, resumed};
 ghost use Rattle.sal_prepare.specs.Scripted as spec;
-ghost use Rattle.sal_cluster.specs.StandBys.{KeepsUp, Leads, Takes, bare, grounded, seen};
+ghost use Rattle.sal_cluster.specs.StandBys.{KeepsUp, Leads, Takes, bare, grounded, opening_held, seen};
 
 use crate::leader::Leader;
-use crate::look::{LookFault, look_in_rows};
+use crate::look::{LookFault, look_in_tree};
 use sal_embed::{Embedded, no_clients, no_order};
 use sal_follow::laws::places_count_bytes;
 use sal_follow::{ExportFault, FollowFault, Follower};
@@ -23,9 +23,8 @@ use sal_history::Opening;
 use sal_json::Patterns;
 use sal_prepare::resumed::{Ground, Resumed, ground_of};
 use sal_prepare::status::Status;
-use sal_rows::Rows;
 use sal_schema::Schema;
-use sal_types::{Bytes, Duplicate, NoMemory, Store, Str};
+use sal_types::{Bytes, NoMemory, Store, Str};
 use std::alloc::Global;
 use std::marker::Model;
 use std::sync::Arc;
@@ -126,11 +125,11 @@ impl StandBy {
         ensures { Looks (map last_among self.now.ground.readers) (last_in self.now.ground.readers 0) (rows_held self.now.follower.held store) path.now result }
     {
         let Standing { follower, ground } = &self.standing;
-        look_in_rows(
+        look_in_tree(
             alloc,
             ground.readers.own(),
             &ground.schemas,
-            follower.rows(store),
+            follower.tree(store),
             path,
         )
     }
@@ -181,12 +180,15 @@ fn led(
     requires { follower.now.held.version ≡ Some base }
     ensures { Leads ground.now follower.now version result }
 {
-    let config = follower.rows(Store::Config);
-    let oper = follower.rows(Store::Oper);
-    if !ground.fits(alloc, version, config, oper) {
+    let Ok(opening) = opening_of(follower) else {
+        return Err(LeadFault::Refused {
+            status: Status::NoMemory,
+        });
+    };
+    if !ground.fits(alloc, version, &opening.config, &opening.oper) {
         return Err(LeadFault::BadVersion);
     }
-    match led_over(alloc, ground, version, config, oper) {
+    match led_over(alloc, ground, version, opening) {
         Ok(broker) => Ok(Leader {
             broker,
             base,
@@ -201,14 +203,12 @@ fn led_over(
     alloc: Global,
     ground: &Ground,
     version: u32,
-    config: &Rows,
-    oper: &Rows,
+    opening: Opening,
 ) -> Result<Embedded, Status>
-    requires { are_of_version ground.now.readers version (record { config = config.now; oper = oper.now }) ≡ true }
-    ensures world { spec.Comes (λ it. it.hub.world) (resumed ground.now.script.rules (parts ground.now.script).devices (begun_with version ground.now.readers) (record { config = config.now; oper = oper.now })) result }
+    requires { are_of_version ground.now.readers version opening ≡ true }
+    ensures world { spec.Comes (λ it. it.hub.world) (resumed ground.now.script.rules (parts ground.now.script).devices (begun_with version ground.now.readers) opening) result }
     ensures begun { IfOk result IsBegun }
 {
-    let opening = opening_of(config, oper)?;
     let Resumed {
         hub,
         schemas,
@@ -217,12 +217,12 @@ fn led_over(
     Ok(Embedded::over(alloc, hub, schemas, readers, ground.script.checked_reads))
 }
 
-// A copy of the trees.
-fn opening_of(config: &Rows, oper: &Rows) -> Result<Opening, NoMemory>
-    ensures { IfOk result (λ it. it ≡ record { config = config.now; oper = oper.now }) }
+// The rows of its trees.
+fn opening_of(follower: &Follower) -> Result<Opening, NoMemory>
+    ensures { IfOk result (λ it. it ≡ opening_held follower.now) }
 {
-    let config = config.copy()?;
-    let oper = oper.copy()?;
+    let config = follower.rows(Store::Config)?;
+    let oper = follower.rows(Store::Oper)?;
     Ok(Opening { config, oper })
 }
 

@@ -1,5 +1,5 @@
 -- How old a node is, by its stamp, over commits that were each made of the one before.
-use Rattle.std.proofs.Common.{◌≡◌, ◌≢◌, ◌⊎◌, inl, inr, ℕ, zero, suc, ◌+◌, ◌-◌, ◌*◌, ◌<◌, ◌≤◌, true, false, List, length, get_or, Some, refl, ap, sym, subst, ◌∙◌, arith}
+use Rattle.std.proofs.Common.{◌≡◌, ◌≢◌, ◌⊎◌, inl, inr, ℕ, zero, suc, ◌+◌, ◌-◌, ◌*◌, ◌<◌, ◌≤◌, true, false, List, [], ◌∷◌, length, get_or, Some, refl, ap, sym, subst, ◌∙◌, arith}
 use Rattle.std.proofs.lemmas.Bool.{cases_lt}
 use Rattle.std.proofs.lemmas.List.{get_or_default}
 use Rattle.sal_types.specs.declared.value.Store.{Store}
@@ -7,12 +7,13 @@ use Rattle.sal_types.specs.declared.value.Step.{Step}
 use Rattle.sal_rows.specs.Touch.{touches}
 use Rattle.sal_node.specs.Tree.{Tree}
 use Rattle.sal_tree.specs.Grow.{at}
-use Rattle.sal_tree.specs.Follows.{Agree}
+use Rattle.sal_tree.specs.Follows.{Agree, HasNo}
 use Rattle.sal_tree.specs.declared.commit.Commit.{Commit}
 use Rattle.sal_tree.proofs.Follows.{some_same}
 use Rattle.sal_graft.specs.Following.{AreFollowing, IsMadeOf, stamp_of}
 use Rattle.sal_graft.specs.Kept.{rows_in, tree_in}
 use Rattle.sal_graft.proofs.Following.{stamped-at}
+use Rattle.sal_commit.specs.Anew.{begun_anew}
 use Rattle.sal_commit_laws.specs.Stamps.{StandsAt}
 
 -- the commit with a number
@@ -64,11 +65,10 @@ module _ (commits : List Commit) (following : AreFollowing commits) where
         let far : k ≡ j + (k - j) = omega (arith, le) in
         since (k - j) j c d m at_c (subst (λ i. StandsAt commits i d) far at_d) stands
 
-    -- no stamp that a transaction has, after an opening of receipt 0
-    pub no_view : (place n : ℕ) (d : Commit) (m : Tree) → ((c : Commit) → StandsAt commits 0 c → c.receipt ≡ 0) → StandsAt commits n d → at (Some (tree_in d.trees s)) p ≡ Some m → m.stamp ≢ 2 * place + 2
-    no_view place zero d m first at_d stands = λ e.
-        let most : m.stamp ≤ stamp_of d.receipt = stamped-at commits 0 d s following at_d.0 at_d.1 p m stands in
-        omega (arith, most, first d at_d, e)
+    -- no stamp that a transaction has, if the opening has none
+    pub no_view : (place n : ℕ) (d : Commit) (m : Tree) → ((c : Commit) → StandsAt commits 0 c → HasNo (2 * place + 2) (tree_in c.trees s)) → StandsAt commits n d → at (Some (tree_in d.trees s)) p ≡ Some m
+        → m.stamp ≢ 2 * place + 2
+    no_view place zero d m first at_d stands = first d at_d p m stands
     no_view place (suc n) d m first at_d stands =
         let short : n + 1 < length commits = omega (arith, at_d.0) in
         let next : suc n ≡ n + 1 = omega arith in
@@ -80,6 +80,11 @@ module _ (commits : List Commit) (following : AreFollowing commits) where
           | true ↦ λ is own. omega (arith, (made.follows s).stamped p m is stands, own)
           | false ↦ λ is. no_view place n e m first at_e (sym ((made.follows s).kept p is) ∙ stands)
         ] refl
+
+  pub first_has_none : (place : ℕ) (c : Commit) (s : Store) → StandsAt commits 0 c → c.receipt ≡ 0 → HasNo (2 * place + 2) (tree_in c.trees s)
+  first_has_none place c s at_c none p n stands = λ e.
+      let most : n.stamp ≤ stamp_of c.receipt = stamped-at commits 0 c s following at_c.0 at_c.1 p n stands in
+      omega (arith, most, none, e)
 
   -- ---- two commits
 
@@ -108,3 +113,11 @@ module _ (commits : List Commit) (following : AreFollowing commits) where
         omega (arith, most, rises, new, same)
         )
   ]
+
+-- the opening of the next epoch has the newest trees
+pub next_has_none : (commits : List Commit) (place : ℕ) (c : Commit) (s : Store) → ((k : ℕ) (d : Commit) → StandsAt commits k d → HasNo (2 * place + 2) (tree_in d.trees s)) → StandsAt (begun_anew commits) 0 c
+    → HasNo (2 * place + 2) (tree_in c.trees s)
+next_has_none [] place c s none at_c = absurd (omega (arith, at_c.0))
+next_has_none (opening ∷ commits) place c s none at_c =
+    let newest : Commit = get_or (opening ∷ commits) (length commits) opening in
+    subst (λ (x : Commit). HasNo (2 * place + 2) (tree_in x.trees s)) (sym at_c.1) (none (length commits) newest (there (opening ∷ commits) (length commits) opening (omega arith)))

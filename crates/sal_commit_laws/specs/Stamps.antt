@@ -13,6 +13,7 @@ use Rattle.sal_tree.specs.Rows.{rows_of}
 use Rattle.sal_tree.specs.declared.commit.Commit.{Commit}
 use Rattle.sal_graft.specs.Following.{AreFollowing, stamp_of}
 use Rattle.sal_graft.specs.Kept.{AreKept, opening_in, ops_of, tree_in}
+use Rattle.sal_commit.specs.Anew.{begun_anew}
 use Rattle.sal_tx.specs.Views.{IsAfter}
 use Rattle.sal_tx.specs.Views as tx
 
@@ -64,11 +65,22 @@ LaterStampsAreNew =
 
 -- ---- views of transactions
 
--- after an opening with receipt 0, no commit has the stamp of a transaction, wherever it began
+-- if no node of the opening has the stamp of a transaction, wherever it began, no commit has it
 abbrev pub ViewStampsAreNoCommits : Type 0
 ViewStampsAreNoCommits =
-    (commits : List Commit) (k place : ℕ) (d : Commit) (s : Store) → AreFollowing commits → ((c : Commit) → StandsAt commits 0 c → c.receipt ≡ 0) → StandsAt commits k d
+    (commits : List Commit) (k place : ℕ) (d : Commit) (s : Store) → AreFollowing commits → ((c : Commit) → StandsAt commits 0 c → HasNo (tx.stamp_of place) (tree_in c.trees s)) → StandsAt commits k d
     → HasNo (tx.stamp_of place) (tree_in d.trees s)
+
+-- no node of an opening of receipt 0 has one, as that of a first epoch
+abbrev pub FirstOpeningsHaveNone : Type 0
+FirstOpeningsHaveNone =
+    (commits : List Commit) (place : ℕ) (c : Commit) (s : Store) → AreFollowing commits → StandsAt commits 0 c → c.receipt ≡ 0 → HasNo (tx.stamp_of place) (tree_in c.trees s)
+
+-- and none of the next epoch's opening, if no commit before has: so there is none over any number of epochs
+abbrev pub NextOpeningsHaveNone : Type 0
+NextOpeningsHaveNone =
+    (commits : List Commit) (place : ℕ) (c : Commit) (s : Store) → ((k : ℕ) (d : Commit) → StandsAt commits k d → HasNo (tx.stamp_of place) (tree_in d.trees s)) → StandsAt (begun_anew commits) 0 c
+    → HasNo (tx.stamp_of place) (tree_in c.trees s)
 
 -- over a base without the transaction's stamp, a node of the view has its base's stamp exactly if the transaction did not touch it
 abbrev pub ViewsDifferWhereTouched : Type 0

@@ -1,5 +1,5 @@
 //! Laws of stamps. Each function does nothing; its contract is the law.
-ghost use Rattle.sal_commit_laws.specs.Stamps.{AgreeByStamps, LaterStampsAreNew, OneStampHasOneTree, OneStampIsOneNode, StampsNeverComeAgain, StampsTellTheLastTouch, ViewStampsAreNoCommits, ViewsDifferWhereTouched, ViewsHaveOneStamp};
+ghost use Rattle.sal_commit_laws.specs.Stamps.{AgreeByStamps, FirstOpeningsHaveNone, LaterStampsAreNew, NextOpeningsHaveNone, OneStampHasOneTree, OneStampIsOneNode, StampsNeverComeAgain, StampsTellTheLastTouch, ViewStampsAreNoCommits, ViewsDifferWhereTouched, ViewsHaveOneStamp};
 
 use sal_commit::Domain;
 
@@ -28,10 +28,12 @@ pub fn stamps_never_come_again()
     ensures new { LaterStampsAreNew }
 {}
 
-/// After an opening with receipt 0 no committed tree has the stamp of a transaction. The nodes that a transaction touched have its stamp in its
-/// view, and every other node is that of its base.
+/// No committed tree has the stamp of a transaction, if the opening has none: that of a first epoch has none, and so that of each next one. The
+/// nodes that a transaction touched have its stamp in its view, and every other node is that of its base.
 pub fn views_have_stamps_of_their_own()
     ensures own { ViewStampsAreNoCommits }
+    ensures first { FirstOpeningsHaveNone }
+    ensures next { NextOpeningsHaveNone }
     ensures touched { ViewsDifferWhereTouched }
     ensures others { ViewsHaveOneStamp }
 {}

@@ -1,6 +1,10 @@
 -- What an entry shows in addition to its texts: the pins that it sets, and its lines.
-use Rattle.std.specs.Prelude.{ℕ, ◌+◌, ◌-◌, List, [], ◌∷◌, ◌++◌, map, Option, None, Some, slice_index_or, unwrap_or, if◌then◌else◌, max}
+use Rattle.std.specs.Prelude.{ℕ, suc, ◌+◌, ◌-◌, List, [], ◌∷◌, ◌++◌, map, Option, None, Some, slice_index_or, unwrap_or, if◌then◌else◌, max, nat_eq}
+use Rattle.std.specs.BTreeMap.{insert_entry, is_at}
 use Rattle.std.specs.List.{flat_map, range_with_len}
+use Rattle.std.specs.Map.{lookup}
+use Rattle.std.specs.Ordering.{nat_cmp}
+use Rattle.sal_note.specs.declared.call.Note.{Note}
 use Rattle.sal_rows.specs.declared.batch.Part.{Part}
 use Rattle.sal_rows.specs.declared.outcome.CallFault.{CallFault}
 use Rattle.sal_rows.specs.declared.outcome.CallFault.TheVariants.{ChainFailed as FailedChain}
@@ -17,7 +21,7 @@ use Rattle.sal_shapes.specs.declared.scene.Act.{Act}
 use Rattle.sal_shapes.specs.declared.scene.Act.TheVariants.{Joins, Sets, Spans}
 use Rattle.sal_shapes.specs.declared.scene.Made.{Made}
 use Rattle.sal_shapes.specs.declared.scene.Pin.{Pin}
-use Rattle.sal_shapes.specs.declared.scene.Pin.TheVariants.{Chain, Commit, Entry, Gone, Mark, Output, Receipt, Request}
+use Rattle.sal_shapes.specs.declared.scene.Pin.TheVariants.{Chain, Commit, Entry, Gone, Mark, Offer, Output, Receipt, Request}
 use Rattle.sal_shapes.specs.declared.scene.Style.TheVariants.{Chained, Clash, Fails, Found, Gives, Hands, Makes, Stands, Told}
 
 -- ---- by the reply
@@ -116,15 +120,49 @@ made_acts (Some m) = Sets (Commit m.domain m.number) ∷ Joins Makes (Commit m.d
 abbrev pub decided_acts : (ℕ → Option Made) → ℕ → ℕ → List Act
 decided_acts made before upto = flat_map made_acts (map made (range_with_len before (upto - before)))
 
+-- ---- notifications
+
+-- the number of accepted offers of the notification
+abbrev pub offers_of : List (ℕ × ℕ) → ℕ → ℕ
+offers_of offers note = unwrap_or (lookup (is_at (nat_cmp note)) offers) 0
+
+abbrev pub one_more : List (ℕ × ℕ) → ℕ → List (ℕ × ℕ)
+one_more offers note = insert_entry nat_cmp offers note (offers_of offers note + 1)
+
+-- the numbers of accepted offers after the call
+abbrev pub offers_after : List (ℕ × ℕ) → Call → Reply → List (ℕ × ℕ)
+offers_after offers (call.Offer note rows) (reply.Offered count) = one_more offers note
+offers_after offers c r = offers
+
+abbrev pub times : ℕ → List Note → ℕ
+times note [] = 0
+times note (n ∷ notes) = if nat_eq n.note note then suc (times note notes) else times note notes
+
+-- A line from the offer of each notification that is taken. What waits for a client are the last offers of each notification to which it is subscribed, in
+-- order.
+abbrev pub taken_acts : List (ℕ × ℕ) → List Note → List Act
+taken_acts offers [] = []
+taken_acts offers (n ∷ notes) = Joins Hands (Offer n.note (offers_of offers n.note - times n.note (n ∷ notes))) ∷ taken_acts offers notes
+
+abbrev pub offer_acts : List (ℕ × ℕ) → Call → List Act
+offer_acts offers (call.Offer note rows) = Sets (Offer note (offers_of offers note)) ∷ []
+offer_acts offers c = []
+
+abbrev pub note_acts : List (ℕ × ℕ) → Call → Reply → List Act
+note_acts offers c (reply.Offered count) = offer_acts offers c
+note_acts offers c (reply.Notes list) = taken_acts offers list
+note_acts offers c r = []
+
 -- ---- along a log
 
--- the state after some entries: the receipt up to which all are decided, and the domain of each chain
+-- the state after some entries: the receipt up to which all are decided, the domain of each chain, and the number of accepted offers of each notification
 pub record Track : Type 0 where
   pub decided : ℕ
   pub chains : List ℕ
+  pub offers : List (ℕ × ℕ)
 
 abbrev pub new_track : Track
-new_track = record { decided = 0; chains = [] }
+new_track = record { decided = 0; chains = []; offers = [] }
 
 abbrev pub option_list : {X : Type 0} → Option X → List X
 option_list None = []
@@ -132,11 +170,13 @@ option_list (Some x) = x ∷ []
 
 -- one entry more
 abbrev pub track_after : Track → Call → Reply → Track
-track_after t c r = record { decided = decided_upto c r t.decided; chains = t.chains ++ option_list (opened_chain c r) }
+track_after t c r =
+    record { decided = decided_upto c r t.decided; chains = t.chains ++ option_list (opened_chain c r); offers = offers_after t.offers c r }
 
 -- what the entry at this index shows
 abbrev pub entry_acts : (ℕ → Option Made) → Track → ℕ → Call → Reply → List Act
-entry_acts made t place c r = Sets (Entry place) ∷ (decided_acts made t.decided (decided_upto c r t.decided) ++ reply_acts t.chains c r)
+entry_acts made t place c r =
+    Sets (Entry place) ∷ (decided_acts made t.decided (decided_upto c r t.decided) ++ (reply_acts t.chains c r ++ note_acts t.offers c r))
 
 -- ---- for the code
 
@@ -145,4 +185,8 @@ abbrev pub made_in : List (Option Made) → ℕ → Option Made
 made_in made i = slice_index_or made i None
 
 abbrev pub track_of : CodeTrack → Track
-track_of t = record { decided = t.decided; chains = t.chains.items }
+track_of t = record { decided = t.decided; chains = t.chains.items; offers = t.offers.entries }
+
+-- a notification without data
+abbrev pub note : ℕ → Note
+note number = record { note = number; rows = [] }

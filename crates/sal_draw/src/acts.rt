@@ -6,10 +6,12 @@ ghost use Rattle.sal_draw.specs.Acts as spec;
 ghost use Rattle.sal_shapes.specs.declared.scene.Made.{Made as Maker};
 
 use sal_history::{Call, Reply};
+use sal_note::Note;
 use sal_rows::{CallFault, Outcome, Part};
 use sal_shapes::{Act, Made, Pin, Style};
 use sal_types::{NoMemory, append};
 use std::alloc::Global;
+use std::collections::BTreeMap;
 
 type Acts = Vec<Act>;
 
@@ -264,13 +266,107 @@ fn add_decided(
     Ok(())
 }
 
+// ---- notifications
+
+// The number of accepted offers of each notification.
+type Offers = BTreeMap<u32, u64>;
+
+fn offers_of(offers: &Offers, note: u32) -> u64
+    ensures { result ≡ spec.offers_of offers.now.entries note }
+{
+    offers.get(&note).copied().unwrap_or(0)
+}
+
+// Counts one more offer. `NoMemory` if there are more offers than numbers.
+fn add_one(offers: &mut Offers, note: u32) -> Result<(), NoMemory>
+    ensures { OnOk result (offers.new.entries ≡ spec.one_more offers.old.entries note) }
+{
+    let count = offers_of(offers, note);
+    if count == u64::MAX {
+        return Err(NoMemory);
+    }
+    offers.insert(note, count + 1)?;
+    Ok(())
+}
+
+fn note_offer(offers: &mut Offers, said: Said) -> Result<(), NoMemory>
+    ensures { OnOk result (offers.new.entries ≡ spec.offers_after offers.old.entries said.entry.call.now said.entry.reply.now) }
+{
+    match (said.call, said.reply) {
+        (Call::Offer { note, .. }, Reply::Offered { .. }) => add_one(offers, *note),
+        _ => Ok(()),
+    }
+}
+
+// How often the notification is among these.
+fn times(note: u32, notes: &[Note]) -> usize
+    ensures { result ≡ spec.times note notes.now }
+{
+    let mut count = 0;
+    for i in 0..notes.len() {
+        if notes[i].note == note {
+            count += 1;
+        }
+    }
+    count
+}
+
+// The pin of the offer of the first of these, which were taken.
+fn taken_pin(offers: &Offers, note: u32, rest: &[Note]) -> Pin
+    ensures { result ≡ Pin.Offer note (spec.offers_of offers.now.entries note - spec.times note rest.now) }
+{
+    let number = offers_of(offers, note).saturating_sub(times(note, rest) as u64);
+    Pin::Offer { note, number }
+}
+
+// A line from the offer of each notification.
+fn add_taken(acts: &mut Acts, offers: &Offers, notes: &[Note]) -> Result<(), NoMemory>
+    ensures { OnOk result (acts.new.items ≡ acts.old.items ++ spec.taken_acts offers.now.entries notes.now) }
+{
+    for i in 0..notes.len() {
+        let pin = taken_pin(offers, notes[i].note, &notes[i..]);
+        join(acts, Style::Hands, pin)?;
+    }
+    Ok(())
+}
+
+fn add_offer(acts: &mut Acts, offers: &Offers, call: &Call) -> Result<(), NoMemory>
+    ensures { OnOk result (acts.new.items ≡ acts.old.items ++ spec.offer_acts offers.now.entries call.now) }
+{
+    match call {
+        Call::Offer { note, .. } => {
+            let number = offers_of(offers, *note);
+            set(
+                acts,
+                Pin::Offer {
+                    note: *note,
+                    number,
+                },
+            )
+        }
+        _ => Ok(()),
+    }
+}
+
+fn add_notes(acts: &mut Acts, offers: &Offers, said: Said) -> Result<(), NoMemory>
+    ensures { OnOk result (acts.new.items ≡ acts.old.items ++ spec.note_acts offers.now.entries said.entry.call.now said.entry.reply.now) }
+{
+    match said.reply {
+        Reply::Offered { .. } => add_offer(acts, offers, said.call),
+        Reply::Notes { list } => add_taken(acts, offers, list.items()),
+        _ => Ok(()),
+    }
+}
+
 // ---- along a log
 
-/// The state after some entries: the receipt up to which all are decided, and the domain of each chain.
+/// The state after some entries: the receipt up to which all are decided, the domain of each chain, and the number of accepted offers of each
+/// notification.
 #[derive(Drop)]
 pub struct Track {
     pub decided: u64,
     pub chains: Vec<u32>,
+    pub offers: BTreeMap<u32, u64>,
 }
 
 impl Track {
@@ -281,6 +377,7 @@ impl Track {
         Track {
             decided: 0,
             chains: Vec::new(alloc),
+            offers: BTreeMap::new(alloc),
         }
     }
 
@@ -299,6 +396,7 @@ impl Track {
         set(&mut acts, Pin::Entry { place })?;
         add_decided(&mut acts, made, self.decided, upto)?;
         add_reply(&mut acts, &self.chains, said.call, said.reply)?;
+        add_notes(&mut acts, &self.offers, said)?;
         Ok(acts)
     }
 
@@ -307,6 +405,7 @@ impl Track {
         ensures { OnOk result (spec.track_of self.new ≡ spec.track_after (spec.track_of self.old) said.entry.call.now said.entry.reply.now) }
     {
         self.decided = decided_upto(said.call, said.reply, self.decided);
+        note_offer(&mut self.offers, said)?;
         match (said.call, said.reply) {
             (Call::OpenChain { domain }, Reply::Chain { .. }) => {
                 append(&mut self.chains, *domain)

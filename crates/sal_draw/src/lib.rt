@@ -13,7 +13,8 @@
 //! track.note(Said { call, reply })?;
 //! ```
 //!
-//! Cost: an entry costs time linear in what it shows.
+//! Cost: an entry costs time linear in what it shows, a look-up among the kinds of notifications for an offer, and for a take of notifications, of which
+//! at most 64 wait, such a look-up and a look at the others for each.
 #![tactic(auto)]
 
 pub mod acts;

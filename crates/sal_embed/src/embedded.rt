@@ -3,7 +3,7 @@ ghost use Rattle.std.specs.Prelude.{◌≡◌, ◌≤◌, [], codes, length};
 ghost use Rattle.sal_prepare.specs.Scripted.{tables_in};
 ghost use Rattle.sal_script.specs.Tables.{tables_of, versions_of};
 ghost use Rattle.sal_script.specs.Reading.{parts};
-ghost use Rattle.sal_embed.specs.Opening.{HasNone, IsBadAt, IsBareOr};
+ghost use Rattle.sal_embed.specs.Opening.{HasNone, IsBadAt, IsBareOr, IsBegun};
 
 use crate::caller::Caller;
 use crate::clients::Clients;
@@ -79,7 +79,7 @@ impl Embedded {
     {
         let prepared = prepare(alloc, script)?;
         bare(alloc, &prepared)?;
-        Ok(over(alloc, prepared))
+        Ok(prepared_over(alloc, prepared))
     }
 
     /// A broker over this hub without calls, with the schemas and the readers of its world. No step was made.
@@ -178,14 +178,14 @@ impl Embedded {
 }
 
 // The broker over a prepared script.
-fn over(alloc: Global, prepared: Prepared) -> Embedded
+fn prepared_over(alloc: Global, prepared: Prepared) -> Embedded
     requires schemas { tables_in prepared.read.schemas.items ≡ tables_of prepared.hub.world }
     requires few { length prepared.read.schemas.items ≤ 64 }
     requires readers { prepared.read.readers ≡ versions_of prepared.hub.world }
     requires fresh { prepared.hub.log ≡ [] }
     ensures hub { result.hub ≡ prepared.hub }
-    ensures callers { result.callers.items ≡ [] }
     ensures reads { result.checked_reads ≡ (parts prepared.read.script).checked }
+    ensures begun { IsBegun result }
 {
     let Prepared { read, hub } = prepared;
     let ReadScript {
@@ -193,17 +193,7 @@ fn over(alloc: Global, prepared: Prepared) -> Embedded
         schemas,
         readers,
     } = read;
-    let checked_reads = script.checked_reads;
-    let callers: Vec<Caller> = Vec::new(alloc);
-    Embedded {
-        clients: Clients {
-            hub,
-            callers,
-            checked_reads,
-        },
-        schemas,
-        readers,
-    }
+    Embedded::over(alloc, hub, schemas, readers, script.checked_reads)
 }
 
 // Whether the script has no clients and no order.

@@ -7,6 +7,7 @@ use Rattle.crossbeam_queue.proofs.Lists.{at_set, at_snoc}
 use Rattle.sal_note.specs.declared.call.Note.{Note}
 use Rattle.sal_feed.specs.declared.rule.Log.{Log}
 use Rattle.sal_feed.specs.Rule.{log, with_offered, with_taken, Knows, Carries, Waits, Follows, Leaves}
+use Rattle.sal_feed.specs.Seats.{OfferKeeps, TakeKeeps}
 
 -- ---- views
 
@@ -28,20 +29,26 @@ all_set F views seat w mine others j u e =
 
 -- ---- the steps
 
-pub begins : Carries [] (log true true [] [] ∷ [])
-begins = record {
+-- what a program says of each moment of its feed
+abbrev Moments : Type 1
+Moments = List Note → List Note → Type 0
+
+pub begins : (holds : Moments) → holds [] [] → Carries holds [] (log true true [] [] ∷ [])
+begins holds first = record {
   offerer = 0;
   taker = 0;
   offered = [];
   taken = [];
   whole = refl;
+  kept = first;
   known = all_set (Knows 0 0 [] []) (log true true [] [] ∷ []) 0 (log true true [] []) (record { offers = λ _. (refl, refl); takes = λ _. (refl, refl) })
       (λ j u other e. absurd (other (at_end [] _ u j (λ x. some-ne-none u (sym x)) e)));
 }
 
-pub offers : (n seat : ℕ) (v : Log) (x : Note) → v.offers ≡ true → Pushes Carries n seat v x (λ w. w ≡ with_offered v x)
-offers n seat v x may items views _ h at =
+pub offers : (holds : Moments) (n seat : ℕ) (v : Log) (x : Note) → OfferKeeps holds n v.offered x → v.offers ≡ true → Pushes (Carries holds) n seat v x (λ w. w ≡ with_offered v x)
+offers holds n seat v x keeps may items views room h at =
     let mine = h.known seat v at in
+    let same : v.offered ≡ h.offered = (mine.offers may).1 in
     let w : Log = with_offered v x in
     let offered : List Note = h.offered ++ x ∷ [] in (
       w,
@@ -51,6 +58,7 @@ offers n seat v x may items views _ h at =
         offered = offered;
         taken = h.taken;
         whole = ap (λ l. l ++ x ∷ []) h.whole ∙ append_assoc h.taken items (x ∷ []);
+        kept = subst (λ (l : List Note). holds (l ++ x ∷ []) h.taken) same (keeps h.taken items (same ∙ h.whole) room (subst (λ (l : List Note). holds l h.taken) (sym same) h.kept));
         known = all_set (Knows h.offerer h.taker offered h.taken) views seat w
             (record { offers = λ _. ((mine.offers may).0, ap (λ l. l ++ x ∷ []) (mine.offers may).1); takes = mine.takes })
             (λ j u other e. record { offers = λ p. absurd (other (((h.known j u e).offers p).0 ∙ sym (mine.offers may).0)); takes = (h.known j u e).takes });
@@ -58,9 +66,11 @@ offers n seat v x may items views _ h at =
       refl,
     )
 
-pub takes : (seat : ℕ) (v : Log) → v.takes ≡ true → Pops Carries seat v (λ x w. w ≡ with_taken v x)
-takes seat v may x items views h at =
+pub takes : (holds : Moments) (seat : ℕ) (v : Log) → TakeKeeps holds v.taken → v.takes ≡ true → Pops (Carries holds) seat v (λ x w. w ≡ with_taken v x)
+takes holds seat v keeps may x items views h at =
     let mine = h.known seat v at in
+    let same : v.taken ≡ h.taken = (mine.takes may).1 in
+    let first : h.offered ≡ v.taken ++ x ∷ items = h.whole ∙ ap (λ (l : List Note). l ++ x ∷ items) (sym same) in
     let w : Log = with_taken v x in
     let taken : List Note = h.taken ++ x ∷ [] in (
       w,
@@ -70,6 +80,7 @@ takes seat v may x items views h at =
         offered = h.offered;
         taken = taken;
         whole = h.whole ∙ sym (append_assoc h.taken (x ∷ []) items);
+        kept = subst (λ (l : List Note). holds h.offered (l ++ x ∷ [])) same (keeps h.offered x items first (subst (λ (l : List Note). holds h.offered l) (sym same) h.kept));
         known = all_set (Knows h.offerer h.taker h.offered taken) views seat w
             (record { offers = mine.offers; takes = λ _. ((mine.takes may).0, ap (λ l. l ++ x ∷ []) (mine.takes may).1) })
             (λ j u other e. record { offers = (h.known j u e).offers; takes = λ p. absurd (other (((h.known j u e).takes p).0 ∙ sym (mine.takes may).0)) });
@@ -78,14 +89,14 @@ takes seat v may x items views h at =
     )
 
 -- a seat with both rights sees what is left
-pub empties : (seat : ℕ) (v : Log) → v.offers ≡ true → v.takes ≡ true → Pops Carries seat v (λ x w. (w ≡ with_taken v x) × Leaves v x)
-empties seat v a b x items views h at =
+pub empties : (holds : Moments) (seat : ℕ) (v : Log) → TakeKeeps holds v.taken → v.offers ≡ true → v.takes ≡ true → Pops (Carries holds) seat v (λ x w. (w ≡ with_taken v x) × Leaves v x)
+empties holds seat v keeps a b x items views h at =
     let mine = h.known seat v at in
-    let step = takes seat v b x items views h at in
+    let step = takes holds seat v keeps b x items views h at in
     (step.0, step.1, (step.2, (items, (mine.offers a).1 ∙ h.whole ∙ ap (λ l. l ++ x ∷ items) (sym (mine.takes b).1))))
 
-pub forks : (seat : ℕ) (v : Log) → v.offers ≡ true → v.takes ≡ true → Forks Carries seat v (log true false v.offered []) (log false true [] v.taken)
-forks seat v a b items views h at =
+pub forks : (holds : Moments) (seat : ℕ) (v : Log) → v.offers ≡ true → v.takes ≡ true → Forks (Carries holds) seat v (log true false v.offered []) (log false true [] v.taken)
+forks holds seat v a b items views h at =
     let l : Log = log true false v.offered [] in
     let r : Log = log false true [] v.taken in
     let mine = h.known seat v at in
@@ -99,6 +110,7 @@ forks seat v a b items views h at =
       offered = h.offered;
       taken = h.taken;
       whole = h.whole;
+      kept = h.kept;
       known = λ j u e. ⊎_elim (λ x. record { offers = (old j u x).0; takes = λ p. absurd ((old j u x).1 p) })
           (λ (is : r ≡ u). record {
             offers = λ p. absurd (true≢false (sym (ap (λ (y : Log). y.offers) is ∙ p)));
@@ -106,8 +118,8 @@ forks seat v a b items views h at =
           }) (at_snoc vs r u j e);
     }
 
-pub merges : (seat : ℕ) (v : Log) (other : ℕ) (u : Log) → v.offers ≡ true → u.takes ≡ true → Merges Carries seat v other u (log true true v.offered u.taken) (log false false [] [])
-merges seat v other u a b items views h at two at' =
+pub merges : (holds : Moments) (seat : ℕ) (v : Log) (other : ℕ) (u : Log) → v.offers ≡ true → u.takes ≡ true → Merges (Carries holds) seat v other u (log true true v.offered u.taken) (log false false [] [])
+merges holds seat v other u a b items views h at two at' =
     let both : Log = log true true v.offered u.taken in
     let mine = h.known seat v at in
     let vs : List Log = set views seat both in
@@ -122,17 +134,22 @@ merges seat v other u a b items views h at two at' =
       offered = h.offered;
       taken = h.taken;
       whole = h.whole;
+      kept = h.kept;
       known = all_set (Knows h.offerer seat h.offered h.taken) vs other (log false false [] [])
           (record { offers = λ p. absurd (true≢false (sym p)); takes = λ p. absurd (true≢false (sym p)) }) (λ j y apart e. now j y e apart);
     }
 
 -- ---- what a seat learns
 
-pub waits : (seat : ℕ) (v : Log) → v.offers ≡ true → Learns Carries seat v (λ items. Waits v.offered items)
-waits seat v may items views h at = (h.taken, ((h.known seat v at).offers may).1 ∙ h.whole)
+pub waits : (holds : Moments) (seat : ℕ) (v : Log) → v.offers ≡ true → Learns (Carries holds) seat v (λ items. Waits holds v.offered items)
+waits holds seat v may items views h at =
+    let same : v.offered ≡ h.offered = ((h.known seat v at).offers may).1 in
+    (h.taken, same ∙ h.whole, subst (λ (l : List Note). holds l h.taken) (sym same) h.kept)
 
-pub follows : (seat : ℕ) (v : Log) → v.takes ≡ true → Learns Carries seat v (λ items. Follows v.taken items)
-follows seat v may items views h at = (h.offered, h.whole ∙ ap (λ l. l ++ items) (sym ((h.known seat v at).takes may).1))
+pub follows : (holds : Moments) (seat : ℕ) (v : Log) → v.takes ≡ true → Learns (Carries holds) seat v (λ items. Follows holds v.taken items)
+follows holds seat v may items views h at =
+    let same : v.taken ≡ h.taken = ((h.known seat v at).takes may).1 in
+    (h.offered, h.whole ∙ ap (λ (l : List Note). l ++ items) (sym same), subst (λ (l : List Note). holds h.offered l) (sym same) h.kept)
 
-pub rests : (seat : ℕ) (v : Log) → v.offers ≡ true → v.takes ≡ true → Learns Carries seat v (λ items. v.offered ≡ v.taken ++ items)
-rests seat v a b items views h at = let mine = h.known seat v at in (mine.offers a).1 ∙ h.whole ∙ ap (λ l. l ++ items) (sym (mine.takes b).1)
+pub rests : (holds : Moments) (seat : ℕ) (v : Log) → v.offers ≡ true → v.takes ≡ true → Learns (Carries holds) seat v (λ items. v.offered ≡ v.taken ++ items)
+rests holds seat v a b items views h at = let mine = h.known seat v at in (mine.offers a).1 ∙ h.whole ∙ ap (λ l. l ++ items) (sym (mine.takes b).1)

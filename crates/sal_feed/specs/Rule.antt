@@ -20,22 +20,23 @@ pub record Knows (offerer taker : ℕ) (offered taken : List Note) (seat : ℕ) 
   pub offers : v.offers ≡ true → (seat ≡ offerer) × (v.offered ≡ offered)
   pub takes : v.takes ≡ true → (seat ≡ taker) × (v.taken ≡ taken)
 
--- the queue has the notifications that were offered after those taken
-pub record Carries (items : List Note) (views : List Log) : Type 0 where
+-- the queue has the notifications that were offered after those taken, and the program's invariant holds of both lists
+pub record Carries (holds : List Note → List Note → Type 0) (items : List Note) (views : List Log) : Type 0 where
   pub offerer : ℕ
   pub taker : ℕ
   pub offered : List Note
   pub taken : List Note
   pub whole : offered ≡ taken ++ items
+  pub kept : holds offered taken
   pub known : (seat : ℕ) (v : Log) → get_elem? views seat ≡ some v → Knows offerer taker offered taken seat v
 
--- these notifications waited when `offered` were all that had been offered
-abbrev pub Waits : List Note → List Note → Type 0
-Waits offered items = (taken : List Note) × (offered ≡ taken ++ items)
+-- these notifications waited at a moment when `offered` were all that had been offered
+abbrev pub Waits : (List Note → List Note → Type 0) → List Note → List Note → Type 0
+Waits holds offered items = (taken : List Note) × (offered ≡ taken ++ items) × holds offered taken
 
--- these notifications waited when `taken` were all that had been taken
-abbrev pub Follows : List Note → List Note → Type 0
-Follows taken items = (offered : List Note) × (offered ≡ taken ++ items)
+-- these notifications waited at a moment when `taken` were all that had been taken
+abbrev pub Follows : (List Note → List Note → Type 0) → List Note → List Note → Type 0
+Follows holds taken items = (offered : List Note) × (offered ≡ taken ++ items) × holds offered taken
 
 -- the notification was the first of the remaining ones
 abbrev pub Leaves : Log → Note → Type 0

@@ -1,10 +1,11 @@
 //! The feed and its seats.
-ghost use Rattle.std.specs.Prelude.{◌≡◌, ◌<◌, ◌≤◌, ◌+◌, true, false, [], ◌∷◌, ◌++◌, vec_capacity, IfOk, MatchOption, MatchResult};
+ghost use Rattle.std.specs.Prelude.{◌≡◌, ◌<◌, ◌≤◌, ◌+◌, true, false, List, [], ◌∷◌, ◌++◌, vec_capacity, IfOk, MatchOption, MatchResult};
 ghost use Rattle.crossbeam_queue.specs.Passes.{view, IsPassOf, ruled_capacity};
+ghost use Rattle.sal_note.specs.declared.call.Note.{Note};
 ghost use Rattle.sal_feed.specs.Rule.{log};
-ghost use Rattle.sal_feed.specs.Seats.{WasEmpty, WasFull};
+ghost use Rattle.sal_feed.specs.Seats.{OfferKeeps, TakeKeeps, WasEmpty, WasFull};
 
-use crate::rule::{Empties, InOrder, Log, Offers, Roles, Takes};
+use crate::rule::{Empties, InOrder, Invariant, Log, Offers, Roles, Takes};
 use crossbeam_queue::{Pass, RuledArrayQueue};
 use sal_note::{Note, NoteList};
 use sal_types::{NoMemory, Seq};
@@ -13,20 +14,20 @@ use std::marker::Model;
 use std::sync::Wait;
 use thiserror::Error;
 
-type Line = RuledArrayQueue<Note, Log, InOrder, Global>;
+type Line<I> = RuledArrayQueue<Note, Log, InOrder<I>, Global>;
 
 /// The most notifications that may wait do.
 #[derive(Clone, Copy, Debug, PartialEq, Eq, Error)]
 #[error("the feed is full")]
 pub struct Full;
 
-/// A queue of notifications between two seats.
+/// A queue of notifications between two seats, with an invariant of the program's (`NoInvariant` says nothing).
 #[derive(Drop)]
-pub struct Feed {
-    line: Line,
+pub struct Feed<I: Invariant> {
+    line: Line<I>,
 }
 
-impl Model for Feed {
+impl<I: Invariant> Model for Feed<I> {
     ghost use Rattle.crossbeam_queue.specs.Passes.{ruled_capacity};
     ghost use Rattle.sal_feed.specs.Seats.{Named};
 
@@ -73,48 +74,51 @@ impl Model for TakeSeat {
     ghost invariant = { λ s. (s.pass.me.1 ≡ []) × (known s.pass ≡ log false true [] (known s.pass).taken) };
 }
 
-impl Feed {
+impl<I: Invariant> Feed<I> {
     /// A feed in which `capacity` notifications may wait, and its two seats.
     pub fn open<R: Wait>(
         _rt: &R,
         alloc: Global,
         capacity: usize,
-    ) -> Result<(Feed, OfferSeat, TakeSeat), NoMemory>
+    ) -> Result<(Feed<I>, OfferSeat, TakeSeat), NoMemory>
+        requires holds { I.holds [] [] }
         requires some { 0 < capacity }
         requires few { capacity ≤ 4096 }
         ensures capacity { IfOk result (λ o. o.0.capacity ≡ capacity) }
         ensures seats { IfOk result (λ o. (o.1.feed ≡ o.0.id) × (o.2.feed ≡ o.0.id)) }
         ensures nothing { IfOk result (λ o. (o.1.offered ≡ []) × (o.2.taken ≡ [])) }
     {
-        let (line, mut pass) = Line::ruled(alloc, capacity)?;
+        let (line, mut pass) = Line::<I>::ruled(alloc, capacity)?;
         let other = line.another::<Roles>(&mut pass);
         Ok((Feed { line }, OfferSeat { pass }, TakeSeat { pass: other }))
     }
 
-    /// Appends the notification, or returns it if at one moment of this call the feed was full. It takes no memory.
+    /// Appends the notification, or returns it if at a step of this call the feed was full. It takes no memory.
     pub fn offer<R: Wait>(
         &self,
         rt: &R,
         seat: &mut OfferSeat,
         note: Note,
     ) -> Result<(), (Note, Full)>
-        requires { seat.old.feed ≡ self.now.id }
+        requires feed { seat.old.feed ≡ self.now.id }
+        requires keeps { OfferKeeps I.holds self.now.capacity seat.old.offered note }
         ensures feed { seat.new.feed ≡ seat.old.feed }
-        ensures told { MatchResult result (λ _. seat.new.offered ≡ seat.old.offered ++ note ∷ []) (λ back. (back.0 ≡ note) × (seat.new.offered ≡ seat.old.offered) × WasFull self.now.capacity seat.old.offered) }
+        ensures told { MatchResult result (λ _. seat.new.offered ≡ seat.old.offered ++ note ∷ []) (λ back. (back.0 ≡ note) × (seat.new.offered ≡ seat.old.offered) × WasFull I.holds self.now.capacity seat.old.offered) }
     {
-        match self.line.push_as::<Offers, R>(rt, &mut seat.pass, note) {
+        match self.line.push_as::<Offers<I>, R>(rt, &mut seat.pass, note) {
             Ok(()) => Ok(()),
             Err(note) => Err((note, Full)),
         }
     }
 
-    /// Takes the first notification; none if at one moment of this call the feed was empty. It takes no memory.
+    /// Takes the first notification; none if at a step of this call the feed was empty. It takes no memory.
     pub fn take<R: Wait>(&self, rt: &R, seat: &mut TakeSeat) -> Option<Note>
-        requires { seat.old.feed ≡ self.now.id }
+        requires feed { seat.old.feed ≡ self.now.id }
+        requires keeps { TakeKeeps I.holds seat.old.taken }
         ensures feed { seat.new.feed ≡ seat.old.feed }
-        ensures told { MatchOption result ((seat.new.taken ≡ seat.old.taken) × WasEmpty seat.old.taken) (λ note. seat.new.taken ≡ seat.old.taken ++ note ∷ []) }
+        ensures told { MatchOption result ((seat.new.taken ≡ seat.old.taken) × WasEmpty I.holds seat.old.taken) (λ note. seat.new.taken ≡ seat.old.taken ++ note ∷ []) }
     {
-        self.line.pop_as::<Takes, R>(rt, &mut seat.pass)
+        self.line.pop_as::<Takes<I>, R>(rt, &mut seat.pass)
     }
 
     /// The remaining notifications; both seats end. If memory runs out for them, nothing changes.
@@ -124,9 +128,10 @@ impl Feed {
         alloc: Global,
         offered: OfferSeat,
         taken: TakeSeat,
-    ) -> Result<NoteList, (Feed, OfferSeat, TakeSeat, NoMemory)>
+    ) -> Result<NoteList, (Feed<I>, OfferSeat, TakeSeat, NoMemory)>
         requires offered { offered.feed ≡ self.id }
         requires taken { taken.feed ≡ self.id }
+        requires keeps { (so_far : List Note) → TakeKeeps I.holds so_far }
         ensures { MatchResult result (λ left. offered.offered ≡ taken.taken ++ left) (λ back. (back.0 ≡ self) × (back.1 ≡ offered) × (back.2 ≡ taken)) }
     {
         let Ok(room) = Vec::with_capacity(alloc, self.line.capacity()) else {
@@ -148,6 +153,7 @@ impl Feed {
     ) -> Result<NoteList, NoMemory>
         requires offered { offered.feed ≡ self.id }
         requires taken { taken.feed ≡ self.id }
+        requires keeps { (so_far : List Note) → TakeKeeps I.holds so_far }
         ensures { IfOk result (λ left. offered.offered ≡ taken.taken ++ left) }
     {
         match self.finish(rt, alloc, offered, taken) {
@@ -158,13 +164,14 @@ impl Feed {
 }
 
 // Takes the remaining notifications into the list, by a seat with both rights.
-fn emptied<R: Wait>(
+fn emptied<I: Invariant, R: Wait>(
     rt: &R,
-    line: &Line,
+    line: &Line<I>,
     mut pass: Pass<Note, Log>,
     mut room: Vec<Note>,
 ) -> Vec<Note>
     requires pass { IsPassOf line.now pass × (view pass ≡ log true true (view pass).offered (view pass).taken) }
+    requires keeps { (so_far : List Note) → TakeKeeps I.holds so_far }
     requires room { (room.items ≡ []) × (ruled_capacity line.now ≤ vec_capacity room) }
     ensures { (view pass).offered ≡ (view pass).taken ++ result.items }
 {

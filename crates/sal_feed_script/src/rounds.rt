@@ -3,7 +3,7 @@ ghost use Rattle.std.specs.Prelude.{◌≡◌, ◌≤◌, IfOk};
 ghost use Rattle.sal_feed_script.specs.Feeding.{sum_below};
 ghost use Rattle.sal_feed_script.specs.Halves.{AreHalves, IsOffered, IsTaken};
 
-use sal_feed::{Feed, OfferSeat, TakeSeat};
+use sal_feed::{Feed, NoInvariant, OfferSeat, TakeSeat};
 use sal_note::Note;
 use sal_rows::Rows;
 use sal_types::NoMemory;
@@ -11,6 +11,8 @@ use std::alloc::Global;
 use std::sync::Wait;
 use std::thread;
 use std::thread::Threads;
+
+type Line = Feed<NoInvariant>;
 
 /// The half that offers: its seat, and the number of the next notification.
 #[derive(Drop)]
@@ -39,7 +41,7 @@ pub(crate) fn sum_taken<R: Threads + Wait + Sync>(
     requires few { capacity ≤ 4096 }
     ensures { IfOk result (λ sum. sum ≡ sum_below notes) }
 {
-    let (feed, offers, takes) = Feed::open(rt, alloc, capacity as usize)?;
+    let (feed, offers, takes) = Line::open(rt, alloc, capacity as usize)?;
     let offered = Offered {
         seat: offers,
         next: 0,
@@ -59,7 +61,7 @@ pub(crate) fn sum_taken<R: Threads + Wait + Sync>(
 fn all_rounds<R: Threads + Wait + Sync>(
     rt: &R,
     alloc: Global,
-    feed: &Feed,
+    feed: &Line,
     notes: u32,
     halves: (Offered, Taken),
 ) -> (Offered, Taken)
@@ -82,7 +84,7 @@ fn all_rounds<R: Threads + Wait + Sync>(
 fn one_round<R: Threads + Wait + Sync>(
     rt: &R,
     alloc: Global,
-    feed: &Feed,
+    feed: &Line,
     notes: u32,
     halves: (Offered, Taken),
 ) -> (Offered, Taken)
@@ -106,7 +108,7 @@ fn one_round<R: Threads + Wait + Sync>(
 }
 
 // Offers notifications until the feed is full, or all are offered.
-fn offer_some<R: Wait>(rt: &R, alloc: Global, feed: &Feed, notes: u32, half: Offered) -> Offered
+fn offer_some<R: Wait>(rt: &R, alloc: Global, feed: &Line, notes: u32, half: Offered) -> Offered
     requires { IsOffered feed.now notes half }
     ensures { IsOffered feed.now notes result }
 {
@@ -121,7 +123,7 @@ fn offer_some<R: Wait>(rt: &R, alloc: Global, feed: &Feed, notes: u32, half: Off
 }
 
 // Takes notifications until there is none, or all are taken.
-fn take_some<R: Wait>(rt: &R, feed: &Feed, notes: u32, half: Taken) -> Taken
+fn take_some<R: Wait>(rt: &R, feed: &Line, notes: u32, half: Taken) -> Taken
     requires notes { notes ≤ 100000 }
     requires taken { IsTaken feed.now notes half }
     ensures { IsTaken feed.now notes result }

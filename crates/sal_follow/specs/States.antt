@@ -1,5 +1,5 @@
 -- The code's state of a follower, as its definition.
-use Rattle.std.specs.Prelude.{◌≡◌, ◌⊎◌, ℕ, ◌+◌, ◌≤◌, Option, Some, None, List, [], length, drop, Result, Err, true, ⊤, if◌then◌else◌}
+use Rattle.std.specs.Prelude.{◌≡◌, ◌⊎◌, ℕ, ◌+◌, ◌≤◌, Option, Some, None, List, [], length, drop, Result, Err, true, if◌then◌else◌}
 use Rattle.sal_rows.specs.declared.rows.patch.Patch.{Patch}
 use Rattle.sal_rows.specs.Patch.{patched}
 use Rattle.sal_schema.specs.declared.table.SchemaTable.{SchemaTable}
@@ -7,9 +7,7 @@ use Rattle.sal_follow.specs.declared.fault.FollowFault.{FollowFault}
 use Rattle.sal_follow.specs.declared.fault.FollowFault.TheVariants.{NoMemory}
 use Rattle.sal_follow.specs.declared.front.Front.TheVariants.{Part}
 use Rattle.sal_follow.specs.declared.state.State.{State}
-use Rattle.sal_follow.specs.declared.state.Run.{Run}
 use Rattle.sal_follow.specs.declared.trees.Both.{Both}
-use Rattle.sal_follow.specs.declared.twin.Twin.{Twin}
 use Rattle.sal_follow.specs.declared.frame.Frame.{Frame}
 use Rattle.sal_near.specs.Near.{patches_fit}
 use Rattle.sal_follow.specs.Front.{front}
@@ -36,27 +34,18 @@ IsWithin s = next (held s []) ≤ s.first + s.at
 abbrev pub HasTrees : SchemaTable → State → Type 0
 HasTrees table s = are_trees table s.config s.oper ≡ true
 
--- the second trees are the same, if they are there
-abbrev pub IsSpare : State → Option Both → Type 0
-IsSpare s None = ⊤
-IsSpare s (Some b) = (b.config ≡ s.config) × (b.oper ≡ s.oper)
+-- both trees of a state
+abbrev pub both_in : State → Both
+both_in s = record { config = s.config; oper = s.oper }
 
--- the invariant of a follower between two pieces
-pub record IsTwin (table : SchemaTable) (twin : Twin) : Type 0 where
-  pub within : IsWithin twin.state
-  pub trees : HasTrees table twin.state
-  pub spare : IsSpare twin.state twin.spare
+-- the invariant of a follower
+pub record IsSound (table : SchemaTable) (s : State) : Type 0 where
+  pub within : IsWithin s
+  pub trees : HasTrees table s
 
--- the invariant of a run: its log leads from the trees at its start to its present ones
-pub record IsSound (table : SchemaTable) (start : State) (run : Run) : Type 0 where
-  pub within : IsWithin run.state
-  pub trees : HasTrees table run.state
-  pub config : run.state.config ≡ patched start.config run.log.config.items
-  pub oper : run.state.oper ≡ patched start.oper run.log.oper.items
-
--- a run that is sound from any start stays so
-abbrev pub StaysSound : Run → Run → Type 0
-StaysSound old new = (table : SchemaTable) (start : State) → IsSound table start old → IsSound table start new
+-- a state that is sound stays so
+abbrev pub StaysSound : State → State → Type 0
+StaysSound old new = (table : SchemaTable) → IsSound table old → IsSound table new
 
 -- before a stream that begins with the frame of this number
 abbrev pub nothing_held : ℕ → State

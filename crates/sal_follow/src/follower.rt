@@ -1,11 +1,12 @@
 //! A follower.
 ghost use Rattle.std.specs.Prelude.{◌≡◌, ◌<◌, ◌≤◌, ◌+◌, ◌^◌, ◌++◌, length, drop, take, true, None, [], IfOk, OnOk, OnErr, MatchResult};
 ghost use Rattle.sal_json.specs.Patterns.{patterns_of};
+ghost use Rattle.sal_tree.specs.Rows.{rows_of};
 ghost use Rattle.sal_follow.specs.Leader.{KeepsUp};
 ghost use Rattle.sal_follow.specs.Framed.{IsSnapshot, IsSnapshotAt};
 ghost use Rattle.sal_follow.specs.Laws.{trees_held};
 ghost use Rattle.sal_follow.specs.Stream.{answer, are_trees, fresh, fresh_at, rows_held};
-ghost use Rattle.sal_follow.specs.States.{Feeds, IsGained, IsJudged, IsTwin, held};
+ghost use Rattle.sal_follow.specs.States.{Feeds, IsGained, IsJudged, IsSound, held};
 ghost use Rattle.sal_follow.specs.Front.{front};
 ghost use Rattle.sal_follow.specs.declared.front.Front.TheVariants.{Part};
 
@@ -14,13 +15,12 @@ use crate::exports::frame_alone;
 use crate::fault::{ExportFault, FollowFault};
 use crate::front::{Front, front_of};
 use crate::reader::Reader;
-use crate::state::State;
-use crate::trees::{Both, both_of};
-use crate::twin::{Twin, state_of, stepped};
+use crate::state::{State, stepped};
 use sal_history::{Device, Opening};
 use sal_json::Patterns;
 use sal_rows::Rows;
 use sal_schema::Schema;
+use sal_tree::Root;
 use sal_types::{Bytes, NoMemory, Store};
 use std::alloc::Global;
 use std::marker::Model;
@@ -32,7 +32,7 @@ pub struct Follower {
     alloc: Global,
     schema: Arc<Schema>,
     patterns: Patterns,
-    twin: Twin,
+    state: State,
     rest: Vec<u8>,
 }
 
@@ -40,7 +40,7 @@ impl Model for Follower {
     ghost use Rattle.sal_json.specs.Patterns.{patterns_of};
     ghost use Rattle.std.specs.Prelude.{◌≡◌};
     ghost use Rattle.sal_follow.specs.Front.{front};
-    ghost use Rattle.sal_follow.specs.States.{Following, IsTwin, held};
+    ghost use Rattle.sal_follow.specs.States.{Following, IsSound, held};
     ghost use Rattle.sal_follow.specs.declared.front.Front.TheVariants.{Part};
     ghost use Rattle.std.specs.Coded.{codes};
     ghost use Rattle.sal_restrict.specs.contracts.yang_type.YangType as e;
@@ -49,9 +49,9 @@ impl Model for Follower {
 
     ghost coded = { Prim.hlevel (codes, e.the_row.coded) };
 
-    ghost view = { λ f. record { schema = f.schema.value; held = held f.twin.state f.rest.items } };
+    ghost view = { λ f. record { schema = f.schema.value; held = held f.state f.rest.items } };
 
-    ghost invariant = { λ f. (f.patterns ≡ patterns_of f.schema.value) × IsTwin f.schema.value f.twin × (front f.rest.items ≡ Part) };
+    ghost invariant = { λ f. (f.patterns ≡ patterns_of f.schema.value) × IsSound f.schema.value f.state × (front f.rest.items ≡ Part) };
 }
 
 // The bytes after the first ones.
@@ -83,17 +83,17 @@ fn shortened(rest: &mut Vec<u8>, len: usize)
 // Takes all complete frames, and keeps the bytes after them. If memory runs out, only the first `before` bytes stay.
 fn judged(
     reader: &Reader,
-    twin: &mut Twin,
+    state: &mut State,
     rest: &mut Vec<u8>,
     before: usize,
 ) -> Result<(), NoMemory>
-    requires twin { IsTwin reader.now.schema.now twin.old }
-    requires going { twin.old.state.fault ≡ None }
-    requires room { twin.old.state.first + twin.old.state.at + length rest.old.items < 2 ^ 64 }
-    ensures told { MatchResult result (λ _. IsJudged reader.now.schema.now twin.old.state rest.old.items twin.new.state rest.new.items) (λ _. (rest.new.items ≡ take before rest.old.items) × (twin.new.state ≡ twin.old.state)) }
-    ensures twin { IsTwin reader.now.schema.now twin.new }
+    requires sound { IsSound reader.now.schema.now state.old }
+    requires going { state.old.fault ≡ None }
+    requires room { state.old.first + state.old.at + length rest.old.items < 2 ^ 64 }
+    ensures told { MatchResult result (λ _. IsJudged reader.now.schema.now state.old rest.old.items state.new rest.new.items) (λ _. (rest.new.items ≡ take before rest.old.items) × (state.new ≡ state.old)) }
+    ensures sound { IsSound reader.now.schema.now state.new }
 {
-    match stepped(reader, twin, rest) {
+    match stepped(reader, state, rest) {
         Ok(used) => {
             cut(rest, used);
             Ok(())
@@ -108,22 +108,22 @@ fn judged(
 // Takes a piece, and keeps the bytes of an incomplete frame. If memory runs out, nothing changes.
 fn gained(
     reader: &Reader,
-    twin: &mut Twin,
+    state: &mut State,
     rest: &mut Vec<u8>,
     piece: &[u8],
 ) -> Result<(), NoMemory>
-    requires twin { IsTwin reader.now.schema.now twin.old }
-    requires going { twin.old.state.fault ≡ None }
+    requires sound { IsSound reader.now.schema.now state.old }
+    requires going { state.old.fault ≡ None }
     requires part { front rest.old.items ≡ Part }
-    requires room { twin.old.state.first + twin.old.state.at + length rest.old.items + length piece.now < 2 ^ 64 }
-    ensures told { MatchResult result (λ _. IsGained reader.now.schema.now twin.old.state rest.old.items piece.now twin.new.state rest.new.items) (λ _. (rest.new.items ≡ rest.old.items) × (twin.new.state ≡ twin.old.state)) }
-    ensures twin { IsTwin reader.now.schema.now twin.new }
+    requires room { state.old.first + state.old.at + length rest.old.items + length piece.now < 2 ^ 64 }
+    ensures told { MatchResult result (λ _. IsGained reader.now.schema.now state.old rest.old.items piece.now state.new rest.new.items) (λ _. (rest.new.items ≡ rest.old.items) × (state.new ≡ state.old)) }
+    ensures sound { IsSound reader.now.schema.now state.new }
 {
     let before = rest.len();
     append(rest, piece)?;
     match front_of(rest) {
         Front::Part => Ok(()),
-        _ => match judged(reader, twin, rest, before) {
+        _ => match judged(reader, state, rest, before) {
             Ok(()) => Ok(()),
             Err(NoMemory) => Err(NoMemory),
         },
@@ -159,11 +159,12 @@ impl Follower {
         requires { patterns ≡ patterns_of schema.value }
         ensures { IfOk result (λ f. f ≡ record { schema = schema.value; held = fresh_at first }) }
     {
+        let state = State::before(alloc, first)?;
         Ok(Follower {
             alloc,
             schema,
             patterns,
-            twin: Twin::before(alloc, first),
+            state,
             rest: Vec::new(alloc),
         })
     }
@@ -185,12 +186,12 @@ impl Follower {
         requires { self.old.held.first + self.old.held.at + length self.old.held.rest + length piece.now < 2 ^ 64 }
         ensures { Feeds piece.now self.old self.new result }
     {
-        if let Some(fault) = self.twin.state.fault {
+        if let Some(fault) = self.state.fault {
             return Err(fault);
         }
         let reader = Reader::new(self.alloc, &self.schema, &self.patterns);
-        match gained(&reader, &mut self.twin, &mut self.rest, piece) {
-            Ok(()) => answered(&self.twin.state),
+        match gained(&reader, &mut self.state, &mut self.rest, piece) {
+            Ok(()) => answered(&self.state),
             Err(NoMemory) => Err(FollowFault::NoMemory),
         }
     }
@@ -199,16 +200,26 @@ impl Follower {
     pub fn version(&self) -> Option<u64>
         ensures { result ≡ self.now.held.version }
     {
-        self.twin.state.version
+        self.state.version
     }
 
     /// The tree of a store at that commit. It takes no memory.
-    pub fn rows(&self, store: Store) -> &Rows
-        ensures { result.now ≡ rows_held self.now.held store }
+    pub fn tree(&self, store: Store) -> &Root
+        ensures { rows_of result.now ≡ rows_held self.now.held store }
     {
         match store {
-            Store::Config => &self.twin.state.config,
-            Store::Oper => &self.twin.state.oper,
+            Store::Config => self.state.config.root(),
+            Store::Oper => self.state.oper.root(),
+        }
+    }
+
+    /// The rows of that tree.
+    pub fn rows(&self, store: Store) -> Result<Rows, NoMemory>
+        ensures { IfOk result (λ rows. rows ≡ rows_held self.now.held store) }
+    {
+        match store {
+            Store::Config => self.state.config.rows(self.alloc),
+            Store::Oper => self.state.oper.rows(self.alloc),
         }
     }
 
@@ -216,7 +227,7 @@ impl Follower {
     pub fn snapshot(&self) -> Option<Result<Bytes, ExportFault>>
         ensures { IsSnapshotAt self.now.schema self.now.held.version (trees_held self.now.held) result }
     {
-        match self.twin.state.version {
+        match self.state.version {
             Some(number) => Some(self.snapshot_as(number)),
             None => None,
         }
@@ -226,8 +237,8 @@ impl Follower {
     fn snapshot_as(&self, number: u64) -> Result<Bytes, ExportFault>
         ensures { IsSnapshot self.now.schema number (trees_held self.now.held) result }
     {
-        let State { config, oper, .. } = &self.twin.state;
-        let frame = frame_of_rows(self.alloc, number, config, oper)?;
+        let Opening { config, oper } = self.opening()?;
+        let frame = frame_of_rows(self.alloc, number, &config, &oper)?;
         frame_alone(self.alloc, &self.schema, &frame)
     }
 
@@ -239,24 +250,28 @@ impl Follower {
     }
 
     /// The domain at the follower's commit, as a device of a new hub: its schema is version 0, and the trees are the opening. They are trees of the
-    /// schema. It copies nothing, and takes no memory.
-    pub fn into_device(self) -> Device
-        ensures schema { result.schema.value ≡ self.schema }
-        ensures upgrades { result.upgrades.items ≡ [] }
-        ensures opening { result.opening ≡ record { config = self.held.config; oper = self.held.oper } }
+    /// schema.
+    pub fn into_device(self) -> Result<Device, NoMemory>
+        ensures schema { IfOk result (λ device. device.schema.value ≡ self.schema) }
+        ensures upgrades { IfOk result (λ device. device.upgrades.items ≡ []) }
+        ensures opening { IfOk result (λ device. device.opening ≡ record { config = self.held.config; oper = self.held.oper }) }
         ensures trees { are_trees self.schema self.held.config self.held.oper ≡ true }
     {
-        let Follower {
-            alloc,
-            schema,
-            twin,
-            ..
-        } = self;
-        let Both { config, oper } = both_of(state_of(twin));
-        Device {
+        let opening = self.opening()?;
+        let Follower { alloc, schema, .. } = self;
+        Ok(Device {
             schema,
             upgrades: Vec::new(alloc),
-            opening: Opening { config, oper },
-        }
+            opening,
+        })
+    }
+
+    // The rows of both trees.
+    fn opening(&self) -> Result<Opening, NoMemory>
+        ensures { IfOk result (λ opening. opening ≡ record { config = self.now.held.config; oper = self.now.held.oper }) }
+    {
+        let config = self.rows(Store::Config)?;
+        let oper = self.rows(Store::Oper)?;
+        Ok(Opening { config, oper })
     }
 }

@@ -19,7 +19,7 @@
 //! let bytes = export_kept(alloc, &schema, &domain.commits)?;
 //! let mut follower = Follower::new(alloc, schema, patterns)?;
 //! let commit = follower.feed(bytes.items())?;
-//! let rows = follower.rows(Store::Config);
+//! let tree = follower.tree(Store::Config);
 //! ```
 //!
 //! | call | cost |
@@ -28,11 +28,12 @@
 //! | `export` | the same with `changes` for a commit: all children of each changed node, so all entries of a list with a changed entry |
 //! | `snapshot_of`, `Follower::snapshot` | all rows of both trees, and their text |
 //! | `Follower::feed` | a few looks at each byte, in any pieces; and for each row of a frame: |
-//! | | two binary searches in its tree, two copies, the checks of `sal_near`; an added or removed row moves those after it, twice |
-//! | `Follower::version`, `rows`, `waiting`, `into_device` | constant |
+//! | | a copy, that of `RowTree::with_cell` (`sal_rowtree`), and the checks of `sal_near` |
+//! | `Follower::version`, `tree`, `waiting` | constant |
+//! | `Follower::rows`, `into_device` | a copy of the rows of one tree, of both |
 //!
-//! A follower has each tree twice. It copies trees only for the first frame after memory ran out, and for one whose trees are refused, after which
-//! it takes no frame.
+//! A frame makes new trees, which share what it does not change with those before: so there is nothing to undo if memory runs out, or if its trees are
+//! refused.
 //!
 //! A sender can make a follower keep one frame of 16,777,226 bytes, and no more: the head of a longer one is refused. `serde_json`
 //! parses the text, and bounds its nesting.
@@ -52,7 +53,6 @@ mod next;
 mod reader;
 mod state;
 mod trees;
-mod twin;
 mod writer;
 
 pub use exports::{export, export_kept, export_on, export_since, snapshot_of};

@@ -8,8 +8,8 @@ use sal_follow::{FollowFault, Follower};
 use sal_prepare::status::Status;
 use sal_report::{DomainEnd, tree_line};
 use sal_schema::Schema;
-use sal_tree::{Pair, Root};
-use sal_types::{NoMemory, Store, Str};
+use sal_tree::Pair;
+use sal_types::{Duplicate, NoMemory, Store, Str};
 use std::alloc::Global;
 use std::slice;
 use std::sync::Arc;
@@ -42,8 +42,8 @@ fn held_line(
     ensures { IsTextOr (Ok (line_held schema.now.value follower.now.held commit)) result }
 {
     let trees = Pair {
-        config: Root::from_rows(alloc, follower.rows(Store::Config), 0)?,
-        oper: Root::from_rows(alloc, follower.rows(Store::Oper), 0)?,
+        config: follower.tree(Store::Config).copy()?,
+        oper: follower.tree(Store::Oper).copy()?,
     };
     let end = DomainEnd {
         domain: 0,

@@ -29,6 +29,7 @@ pub mod Taking
 pub mod Telling
 pub mod Upgrading
 pub mod Versioned
+pub mod Waiting
 pub mod Wholes
 pub mod Writers
 pub mod Sendable

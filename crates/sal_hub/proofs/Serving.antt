@@ -20,7 +20,7 @@ use Rattle.sal_hub.specs.Domains.{AreDomains, IsDomain}
 use Rattle.sal_hub.specs.Journals.{Noted}
 use Rattle.sal_hub.specs.HubHistory.{HubHistory}
 use Rattle.sal_hub.specs.PipelineView.{AllKept, is_live_in, queue_of, opened_as, shown, world_in}
-use Rattle.sal_hub.proofs.Deciding.{live-here, last-at, live-within, opening-at, table-at, version-here}
+use Rattle.sal_hub.proofs.Deciding.{live-here, last-at, live-within, opening-at, rules-at, table-at, version-here}
 use Rattle.sal_hub.proofs.Keeping.{chains-current, commits-current, receipts-current}
 use Rattle.sal_hub.proofs.Listed.{slice_get_at}
 
@@ -58,6 +58,7 @@ module _ (journal : Noted) (p : Pipeline) (is : IsKept journal p) where
         record {
           number = stored.number;
           live = sym (live-here (queue_of p).domains n (shown d) here) ∙ is.current.live n;
+          rules = sym (rules-at (queue_of p).domains n (shown d) here);
           schema = sym (table-at (queue_of p).domains n (shown d) here) ∙ is.current.tables n;
           last = sym (last-at (queue_of p).domains n (shown d) here);
           version = sym (version-here (queue_of p).domains n (shown d) here) ∙ is.current.versions n (slice_get_within (queue_of p).domains n (shown d) here);

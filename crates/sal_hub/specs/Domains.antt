@@ -4,17 +4,19 @@ use Rattle.sal_graft.specs.Kept.{AreKept, chains_of, opening_in, ops_of}
 use Rattle.sal_commit.specs.declared.domain.Domain.{Domain}
 use Rattle.sal_commit.specs.Stamps.{receipts_of}
 use Rattle.sal_commit.specs.Versions.{last_in}
-use Rattle.sal_history.specs.World.{last_of, opening_of}
+use Rattle.sal_history.specs.World.{last_of, opening_of, rules_of}
 use Rattle.sal_history.specs.History.{commits, history, is_live, outcomes, sents}
 use Rattle.sal_history.specs.Submissions.{done_chains}
 use Rattle.sal_history.specs.Versions.{schema_version, tables_now}
 use Rattle.sal_hub.specs.CommitReceipts.{commit_receipts}
 use Rattle.sal_hub.specs.HubHistory.{HubHistory}
 
--- the domain of this number, with the present and the last version of its schema, the number of the present one, and its commits so far
+-- the domain of this number, with its version rules, the present and the last version of its schema, the number of the present one, and its commits
+-- so far
 pub record IsDomain (known : HubHistory) (n : ℕ) (d : Domain) : Type 0 where
   pub number : d.number ≡ n
   pub live : d.live ≡ is_live known.world (history known.world known.log) n
+  pub rules : d.rules ≡ rules_of known.world n
   pub schema : d.schema.value ≡ tables_now known.world (history known.world known.log) n
   pub last : last_in d ≡ last_of known.world n
   pub version : d.version ≡ (if nat_eq n 0 then schema_version (history known.world known.log) else 0)

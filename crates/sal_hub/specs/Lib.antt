@@ -23,4 +23,5 @@ pub mod Starts
 pub mod Submits
 pub mod Tokens
 pub mod Upgrades
+pub mod Waiting
 pub mod Whole

@@ -14,6 +14,7 @@
 //! | `Hub::subscribe`, `offer`, `take_notes` | the same, of notifications (MD-SAL `DOMNotificationService`; `sal_note`) |
 //! | `Hub::upgrade` | the same: the next version of the controller's own schema, unless a newest tree would break a rule of it |
 //! | `Hub::mark`, `after`, `has_mark` | the same, of marks, by which clients signal each other; and a look without an entry |
+//! | `Hub::has_request`, `has_answer`, `has_notes`, `has_commits`, `is_decided` | what waits for a client; looks without an entry |
 //! | `Receipt`, `Chain`, `ListenerId`, `CallId` | the tokens of a submission, of a chain, of a listener and of a request |
 //! | `Seen` | the result of a look for a mark |
 //! | `Hub::stays_closed`, `keeps_the_rules` | do nothing; laws: committed trees are closed by the present schema versions; the newest break no rule |
@@ -65,6 +66,7 @@
 //! | `open` | for each device the nodes of its trees, and the check of both |
 //! | `next_epoch` | the drop of the log and of all commits but the newest; nothing for each node that is kept |
 //! | `log`, `domains`, `outcomes`, `newest`, `trees`, `newest_of`, `trees_of` | constant |
+//! | `has_answer`, `has_commits`, `is_decided`; `has_request`, `has_notes` | constant; one search among the queues; no memory |
 //! | `begin`, `cancel`, `open_chain`, `chain_begin`, `close_chain` | one search among the clients; a begin shares the nodes of its base |
 //! | `mark`, `after`; `has_mark` | the same, and one search among the marks; that search alone |
 //! | `listen` | one search among the clients, and a copy of the rows at the path and below it |
@@ -113,6 +115,7 @@ mod services;
 mod start;
 mod submit;
 mod version_calls;
+mod waits;
 
 pub use call_id::CallId;
 pub use chain::Chain;

@@ -10,6 +10,7 @@ ghost use Rattle.sal_hub.specs.Journals.{jotted, mark_at};
 ghost use Rattle.sal_hub.specs.PipelineView.{AllKept, is_live_in, queue_of};
 ghost use Rattle.sal_hub.specs.Listeners as spec;
 ghost use Rattle.sal_hub.specs.Tokens.{IsListener};
+ghost use Rattle.sal_hub.specs.Waiting.{would_give};
 
 use crate::journal::Journal;
 use crate::listener::{Listener, ListenerId};
@@ -148,6 +149,28 @@ impl Listeners {
             Ok(batch) => Ok(batch),
             Err(NoMemory) => Err(CallFault::NoMemory),
         }
+    }
+
+    /// Whether the batch of the client's listener would go beyond the one before. It takes no memory.
+    pub(crate) fn has_commits(
+        &self,
+        pipeline: &Pipeline,
+        journal: &Journal,
+        client: u32,
+        id: ListenerId,
+    ) -> bool
+        requires kept { IsKept journal.now pipeline.now }
+        requires listeners { spec.AreListeners (known_of journal.now pipeline.now) self.now }
+        requires token { IsListener (known_of journal.now pipeline.now) id }
+        ensures { result ≡ would_give (known_of journal.now pipeline.now) client (Take id.number) }
+    {
+        let number = id.number();
+        if !self.has(client, number) {
+            return false;
+        }
+        let listener = &self.list[number as usize - 1];
+        let domain = &pipeline.domains[listener.domain as usize];
+        listener.version < domain.commits.len() as u64 - 1
     }
 
     // Whether the client has the listener of this number, and the listener is live.

@@ -1,20 +1,10 @@
 -- A copy of the rows under a path that follows the commits by their batches.
-use Rattle.std.specs.Prelude.{◌≡◌, ℕ, List, map, flat_map}
+use Rattle.std.specs.Prelude.{◌≡◌, ℕ, List}
 use Rattle.sal_types.specs.declared.value.Step.{Step}
 use Rattle.sal_types.specs.declared.row.Row.{Row}
 use Rattle.sal_types.specs.Tree.{under, IsAscending}
-use Rattle.sal_rows.specs.declared.change.Change.{Change}
 use Rattle.sal_rows.specs.declared.batch.Batch.{Batch}
-use Rattle.sal_rows.specs.declared.batch.Part.{Part}
-use Rattle.sal_rows.specs.declared.rows.patch.Patch.{Patch}
 use Rattle.sal_rows.specs.Batches.{HasChangesOf}
-
--- the patch of a change, and the patches of the parts of a batch
-abbrev pub patch_by : Change → Patch
-patch_by c = record { path = c.path; cell = c.after }
-
-abbrev pub patches_in : List Part → List Patch
-patches_in ps = flat_map (λ p. map patch_by p.list) ps
 
 -- For every list of committed trees and every path: if the batch has their changes under the path, and the rows before are those under the
 -- path at the commit at which it begins, the rows after are those at the commit at which it ends.

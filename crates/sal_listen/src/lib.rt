@@ -10,11 +10,11 @@
 //! | `MirrorFault` | why a batch was not taken: it begins at another commit, or memory ran out |
 //!
 //! ```
-//! let mut mirror = Mirror::open(&opened(alloc, &commits, store, &path)?)?;
+//! let mut mirror = Mirror::open(alloc, &opened(alloc, &commits, store, &path)?)?;
 //! // later, when there are more commits
 //! let listened = Listened { store, path: &path, own: schema.has_own_row(&path) };
 //! mirror.take(alloc, &batch(alloc, &listened, &commits, mirror.version())?)?;
-//! let rows = mirror.rows();
+//! let rows = mirror.rows(alloc)?;
 //! ```
 //!
 //! Commits are those that a domain keeps, each with its operations and the trees after it (`AreKept`), and each two
@@ -30,17 +30,17 @@
 //! |---|---|
 //! | `opened` | a copy of the rows |
 //! | `batch` | for each commit a look at two roots if its operations are of the other store; else that of `changes_by` (`sal_delta`) |
-//! | `Mirror::open` | a copy of the rows |
-//! | `Mirror::take` | a copy of the changes; for each a binary search among the rows, and for an added or removed row a move of the rows after it |
-//! | `Mirror::version`, `Mirror::rows` | constant |
+//! | `Mirror::open` | a tree of the rows |
+//! | `Mirror::take` | for each change that of `RowTree::with_cell` (`sal_rowtree`) |
+//! | `Mirror::rows` | a copy of the rows |
+//! | `Mirror::version` | constant |
 //!
 //! In a list of 100,000 entries one changed leaf took 1.5 microseconds at the root, 0.6 at another entry and 0.06 in the other
-//! store, and the mirror of its 300,000 rows took it in 1.4. 256 listeners went over 1,000 commits of one leaf each in 2
+//! store. 256 listeners went over 1,000 commits of one leaf each in 2
 //! seconds if all listen at the root, and in 0.3 if each listens at an entry.
 //!
-//! The rows are changed in place; all memory is allocated first, so if memory runs out the mirror is unchanged. Its rows may take
-//! twice their size. A batch that adds or removes many rows of a large copy costs their number times the rows: a client
-//! with such batches should open its listener again.
+//! A mirror has its rows in a tree: a batch makes a new one, which shares what did not change. So if memory runs out the mirror is
+//! unchanged, and the order in which rows come and go does not matter.
 #![tactic(auto)]
 
 pub mod batches;

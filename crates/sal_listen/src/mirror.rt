@@ -1,10 +1,12 @@
 //! A copy of a listener's rows.
-ghost use Rattle.std.specs.Prelude.{◌≡◌, ◌≢◌, ◌↔◌, ◌++◌, IsErrOf, IfOk, IfErr, OnOk, OnErr, map};
-ghost use Rattle.sal_rows.specs.Patch.{with_parts};
-ghost use Rattle.sal_listen.specs.Mirrors.{CarriesOn, patch_by, patches_in};
+ghost use Rattle.std.specs.Prelude.{◌≡◌, ◌≢◌, ◌↔◌, IsErrOf, IfOk, IfErr, OnOk, OnErr};
+ghost use Rattle.sal_types.specs.Tree.{IsAscending};
+ghost use Rattle.sal_rows.specs.Patch.{with_changes, with_parts};
+ghost use Rattle.sal_listen.specs.Mirrors.{CarriesOn};
 
-use sal_rows::{Batch, Change, Opened, Part, Patch, Rows};
-use sal_types::{Cell, Duplicate, NoMemory};
+use sal_rows::{Batch, Change, Opened, Part, Rows};
+use sal_rowtree::RowTree;
+use sal_types::{Duplicate, NoMemory};
 use std::alloc::Global;
 use thiserror::Error;
 
@@ -19,10 +21,9 @@ pub enum MirrorFault {
 }
 
 /// A copy of a listener's rows, with the number of the commit that they are of.
-#[derive(Debug)]
 pub struct Mirror {
     version: u64,
-    rows: Rows,
+    rows: RowTree,
 }
 
 impl Drop for Mirror {
@@ -36,10 +37,10 @@ impl Drop for Mirror {
 
 impl Mirror {
     /// The rows of the listener's opening.
-    pub fn open(opened: &Opened) -> Result<Mirror, NoMemory>
+    pub fn open(alloc: Global, opened: &Opened) -> Result<Mirror, NoMemory>
         ensures { IfOk result (λ m. m ≡ record { version = opened.now.version; rows = opened.now.rows }) }
     {
-        let rows = opened.rows.copy()?;
+        let rows = RowTree::from_rows(alloc, &opened.rows)?;
         Ok(Mirror {
             version: opened.version,
             rows,
@@ -51,19 +52,23 @@ impl Mirror {
         ensures version { OnOk result (self.new.version ≡ batch.now.to) }
         ensures rows { OnOk result (self.new.rows ≡ with_parts self.old.rows batch.now.lists) }
         ensures committed { OnOk result (CarriesOn batch.now self.old.rows self.new.rows) }
+        ensures ascending { IsAscending self.old.rows }
         ensures gap { IsErrOf result (MirrorFault.Gap self.old.version batch.now.from) ↔ (self.old.version ≢ batch.now.from) }
         ensures memory { self.old.version ≡ batch.now.from → IfErr result (λ e. e ≡ MirrorFault.NoMemory) }
         ensures kept { OnErr result (self.new ≡ self.old) }
     {
+        // For the proof alone: it says that the rows ascend.
+        let _ = self.rows.root();
         if self.version != batch.from {
             return Err(MirrorFault::Gap {
                 have: self.version,
                 from: batch.from,
             });
         }
-        let Ok(()) = follow(alloc, &mut self.rows, batch.lists.items()) else {
+        let Ok(rows) = after_parts(alloc, &self.rows, batch.lists.items()) else {
             return Err(MirrorFault::NoMemory);
         };
+        self.rows = rows;
         self.version = batch.to;
         Ok(())
     }
@@ -75,63 +80,32 @@ impl Mirror {
         self.version
     }
 
-    /// The rows. It takes no memory.
-    pub fn rows(&self) -> &Rows
-        ensures { result.now ≡ self.now.rows }
+    /// The rows.
+    pub fn rows(&self, alloc: Global) -> Result<Rows, NoMemory>
+        ensures { IfOk result (λ rows. rows ≡ self.now.rows) }
     {
-        &self.rows
+        self.rows.rows(alloc)
     }
 }
 
-// Applies the parts of a batch to the rows, in place.
-fn follow(alloc: Global, rows: &mut Rows, parts: &[Part]) -> Result<(), NoMemory>
-    ensures ok { OnOk result (rows.new ≡ with_parts rows.old parts.now) }
-    ensures err { OnErr result (rows.new ≡ rows.old) }
+// The rows after the parts of a batch.
+fn after_parts(alloc: Global, rows: &RowTree, parts: &[Part]) -> Result<RowTree, NoMemory>
+    ensures { IfOk result (λ after. after ≡ with_parts rows.now parts.now) }
 {
-    let patches = all_patches(alloc, parts)?;
-    rows.patch(patches)?;
-    Ok(())
-}
-
-// The patches of the parts, one after another.
-fn all_patches(alloc: Global, parts: &[Part]) -> Result<Vec<Patch>, NoMemory>
-    ensures { IfOk result (λ v. v.items ≡ patches_in parts.now) }
-{
-    let mut patches = Vec::new(alloc);
+    let mut rows = rows.copy()?;
     for part in parts {
-        add_patches(&mut patches, part.list.items())?;
+        rows = after_changes(alloc, rows, part.list.items())?;
     }
-    Ok(patches)
+    Ok(rows)
 }
 
-// Appends the patches of the changes.
-fn add_patches(patches: &mut Vec<Patch>, list: &[Change]) -> Result<(), NoMemory>
-    ensures { OnOk result (patches.new.items ≡ patches.old.items ++ map patch_by list.now) }
+// The rows after the changes.
+fn after_changes(alloc: Global, rows: RowTree, list: &[Change]) -> Result<RowTree, NoMemory>
+    ensures { IfOk result (λ after. after ≡ with_changes rows list.now) }
 {
+    let mut rows = rows;
     for change in list {
-        let patch = patch_by(change)?;
-        patches.push(patch)?;
+        rows = rows.with_cell(alloc, &change.path, &change.after)?;
     }
-    Ok(())
-}
-
-// The patch of a change.
-fn patch_by(change: &Change) -> Result<Patch, NoMemory>
-    ensures { IfOk result (λ patch. patch ≡ patch_by change.now) }
-{
-    let cell = copied(&change.after)?;
-    let path = change.path.copy()?;
-    Ok(Patch { path, cell })
-}
-
-fn copied(cell: &Option<Cell>) -> Result<Option<Cell>, NoMemory>
-    ensures { IfOk result (λ copy. copy ≡ cell.now) }
-{
-    match cell {
-        None => Ok(None),
-        Some(cell) => {
-            let cell = cell.copy()?;
-            Ok(Some(cell))
-        }
-    }
+    Ok(rows)
 }

@@ -1,3 +1,2 @@
-pub mod FirstBelow
 pub mod Nearby
 pub mod StateData

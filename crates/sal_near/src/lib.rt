@@ -11,15 +11,14 @@
 //! the paths of patches, and above them, can cease to be whole.
 //!
 //! ```
-//! rows.patch(patches.copy()?)?;
-//! let closed = are_near(&schema, &rows, patches.items());
+//! let after = rows.with_cell(alloc, &patch.path, &patch.cell)?;
+//! let closed = are_near(&schema, &after, &[patch]);
 //! ```
 //!
-//! Costs: for each entry and presence container above a patch, one binary search for its row and one for each key leaf; those above the patch
-//! before it are skipped. If one is not whole, one search more, for a row below it. Neither call takes memory.
+//! Costs: the rows are in a tree (`sal_rowtree`). For each entry and presence container above a patch, one look-up of its row and one of each key
+//! leaf; those above the patch before it are skipped. If one is not whole, one look-up more, for a row below it. Neither call takes memory.
 #![tactic(auto)]
 
-mod cells;
 pub mod laws;
 mod near;
 mod state;

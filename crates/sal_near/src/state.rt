@@ -1,27 +1,23 @@
 //! Whether patches set state data.
 ghost use Rattle.std.specs.Prelude.{◌≡◌};
-ghost use Rattle.sal_types.specs.Tree.{IsAscending};
 ghost use Rattle.sal_near.specs.Near as spec;
 
-use sal_data::cell_at;
-use sal_rows::{Patch, Rows};
+use sal_rows::Patch;
+use sal_rowtree::RowTree;
 use sal_schema::Schema;
-use sal_types::Row;
 
-fn leaves_state(schema: &Schema, rows: &[Row], patch: &Patch) -> bool
-    requires { IsAscending rows.now }
+fn leaves_state(schema: &Schema, rows: &RowTree, patch: &Patch) -> bool
     ensures { result ≡ spec.leaves_state schema.now rows.now patch.now }
 {
-    schema.is_of_state(&patch.path) && cell_at(rows, patch.path.steps()).is_some()
+    schema.is_of_state(&patch.path) && rows.cell_at(patch.path.steps()).is_some()
 }
 
 /// Whether there is a row of a state node at the path of a patch, in rows that were patched.
 ///
 /// If the rows had no state data before, they have some now exactly if it does (`laws::state_is_near`). It takes no memory.
-pub fn leave_state(schema: &Schema, rows: &Rows, patches: &[Patch]) -> bool
+pub fn leave_state(schema: &Schema, rows: &RowTree, patches: &[Patch]) -> bool
     ensures { result ≡ spec.leave_state schema.now rows.now patches.now }
 {
-    let rows = rows.items();
     for patch in patches {
         if leaves_state(schema, rows, patch) {
             return true;

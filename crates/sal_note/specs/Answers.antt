@@ -1,11 +1,11 @@
 -- The effect of a call: the boxes of one call more and the reply by the definition, or, if memory ran out, no change.
-use Rattle.std.specs.Prelude.{◌≡◌, ℕ, List, [], ◌∷◌, ◌++◌, Result, MatchResult}
+use Rattle.std.specs.Prelude.{◌≡◌, ℕ, Bool, List, [], ◌∷◌, ◌++◌, Result, MatchResult}
 use Rattle.sal_note.specs.declared.call.NoteCall.{NoteCall}
 use Rattle.sal_note.specs.declared.call.NoteFault.{NoteFault}
 use Rattle.sal_note.specs.declared.call.NoteFault.TheVariants.{NoteRejected, NoMemory}
 use Rattle.sal_note.specs.declared.call.NoteReply.{NoteReply}
 use Rattle.sal_note.specs.declared.call.NoteReply.TheVariants.{Refused}
-use Rattle.sal_note.specs.Queues.{Asked, made_of, reply_to}
+use Rattle.sal_note.specs.Queues.{Asked, gives, made_of, reply_to}
 use Rattle.sal_note.specs.Boxes.{Boxes, IsOf}
 
 -- The client's call was made: for any earlier calls, the boxes are those of one call more, and the reply is theirs.
@@ -26,3 +26,7 @@ Fails old new client call (NoteRejected subscriber) = IsRefused old new client c
 -- a call that returns its result, or a fault
 abbrev pub Answers : {X : Type 0} → Boxes → Boxes → ℕ → NoteCall → (X → NoteReply) → Result X NoteFault → Type 0
 Answers old new client call good result = MatchResult result (λ x. Makes old new client call (good x)) (Fails old new client call)
+
+-- whether the client's call, made now, would be given something, for any earlier calls
+abbrev pub Gives : Boxes → ℕ → NoteCall → Bool → Type 0
+Gives b client call given = (calls : List Asked) → IsOf calls b → given ≡ gives (reply_to (made_of calls) client call)

@@ -72,6 +72,13 @@ reply_to made client (Subscribe note) = Accepted
 reply_to made client (Offer note rows) = offered made (subscribers made note)
 reply_to made client TakeNotes = Notes (queue made client)
 
+-- the reply hands notifications over
+abbrev pub gives : NoteReply → Bool
+gives Accepted = false
+gives (Offered count) = false
+gives (Notes list) = nat_lt 0 (length list)
+gives (Refused fault) = false
+
 -- the subscribers of what a call offers
 abbrev pub subscribed_to : List Made → NoteCall → List ℕ
 subscribed_to made (Offer note rows) = subscribers made note

@@ -25,6 +25,7 @@
 //! | `Notes::subscribe` | a search among the clients and one among the notifications, and a walk over the subscribers |
 //! | `Notes::offer` | a search among the notifications; for each subscriber two searches among the clients and a copy of the rows |
 //! | `Notes::take_notes` | a search among the clients; nothing is copied, and it takes no memory |
+//! | `Notes::has_notes` | a search among the clients; no memory |
 //!
 //! A search compares some log n numbers. If memory runs out within an offer, it is removed from the queues that have it, with a
 //! search each. At most 64 notifications wait for a client, so memory grows with the clients and not with the offers.

@@ -3,8 +3,8 @@ ghost use Rattle.std.specs.Prelude.{◌≡◌, ◌<◌, ◌^◌, ℕ, [], ◌∷
 ghost use Rattle.std.specs.BTreeMap.{insert_entry};
 ghost use Rattle.std.specs.Ordering.{nat_cmp};
 ghost use Rattle.sal_note.specs.declared.call.NoteCall.TheVariants.{Subscribe, Offer, TakeNotes};
-ghost use Rattle.sal_note.specs.declared.call.NoteReply.TheVariants.{Accepted, Offered, Notes as Gives};
-ghost use Rattle.sal_note.specs.Answers.{Answers, Makes};
+ghost use Rattle.sal_note.specs.declared.call.NoteReply.TheVariants.{Accepted, Offered, Notes as Given};
+ghost use Rattle.sal_note.specs.Answers.{Answers, Gives, Makes};
 ghost use Rattle.sal_note.specs.Boxes as spec;
 ghost use Rattle.sal_note.specs.Boxes.{Ascend, HasRoom, IsOf, box_in, clients_in, give_one, given, queue_in, take_one, taken_back};
 ghost use Rattle.sal_note.specs.Queues.{with_client};
@@ -91,9 +91,16 @@ impl Notes {
 
     /// Takes all notifications that wait for the client, in order. It takes no memory.
     pub fn take_notes(&mut self, alloc: Global, client: u32) -> NoteList
-        ensures { Makes self.old self.new client TakeNotes (Gives result) }
+        ensures { Makes self.old self.new client TakeNotes (Given result) }
     {
         take_all(alloc, &mut self.queues, client)
+    }
+
+    /// Whether a notification waits for the client: whether `take_notes` would return any. It takes no memory.
+    pub fn has_notes(&self, client: u32) -> bool
+        ensures { Gives self.now client TakeNotes result }
+    {
+        waiting(&self.queues, client) > 0
     }
 }
 

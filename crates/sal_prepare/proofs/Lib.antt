@@ -1,6 +1,7 @@
 pub mod Chosen
 pub mod Each
 pub mod Formed
+pub mod Replaced
 pub mod LoadWorld
 pub mod Numbered
 pub mod OwnSchemas

@@ -77,7 +77,7 @@ first_sound : (versions : List SchemaTable) → IsChained versions → IsTable (
 first_sound [] is = absurd (omega (arith, is.some))
 first_sound (t ∷ ts) is = is.tables 0 t (omega (arith))
 
-both_closed : (table : SchemaTable) (o : Opening) → IsTrue (is_closed table o.config) → IsTrue (is_closed table o.oper) → AreClosed table (tree_of_opening o)
+pub both_closed : (table : SchemaTable) (o : Opening) → IsTrue (is_closed table o.config) → IsTrue (is_closed table o.oper) → AreClosed table (tree_of_opening o)
 both_closed table o config oper Config = config
 both_closed table o config oper Oper = oper
 

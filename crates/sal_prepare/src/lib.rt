@@ -4,7 +4,7 @@
 //! |---|---|
 //! | `scripted` | `prepare`: a script's parts with the status of its first fault, up to its hub |
 //! | `domains`, `openings` | the schemas of the controller's own domain and of the devices, with their readers; their opening trees |
-//! | `resumed` | a script whose domain 0 begins with the trees of a follower: `ground_of`, `Ground::resume` |
+//! | `resumed` | a script whose domains begin with the trees of followers: `ground_of`, `Ground::resume`, `resume_with` |
 //! | `own_schema` | the last version of the schema of domain 0 alone, with its patterns |
 //! | `parted` | an input of two parts, divided by its first zero byte |
 //! | `plays` | the result of a played script: its report, the trees at the end, the status of a failure |
@@ -15,6 +15,7 @@
 #![tactic(auto)]
 
 mod domains;
+mod given;
 pub mod laws;
 mod openings;
 pub mod own_schema;

@@ -67,7 +67,21 @@ pub fn frames_on(
     domain_frames(alloc, &domain.schema, domain, next)
 }
 
-/// The same of the controller's own domain, by another version of its schema: by the last one, a stream has one table whatever upgrades come.
+/// The same by another version of the domain's schema: by the last one, a stream has one table whatever upgrades come.
+pub fn frames_by(
+    alloc: Global,
+    schema: &Schema,
+    hub: &Hub,
+    domain: u32,
+    next: NextFrame,
+) -> Result<Bytes, ExportFault>
+    requires { domain < length hub.now.world }
+    ensures { ExportsOn schema.now (committed hub.now domain) next.commit next.number result }
+{
+    domain_frames(alloc, schema, &hub.domains()[domain as usize], next)
+}
+
+/// The same of the controller's own domain.
 pub fn own_frames(
     alloc: Global,
     schema: &Schema,
@@ -96,7 +110,21 @@ pub fn snapshot_of_newest(
     snapshot_of(alloc, &domain.schema, trees, number)
 }
 
-/// The same of the controller's own domain, by another version of its schema.
+/// The same by another version of the domain's schema.
+pub fn snapshot_by(
+    alloc: Global,
+    schema: &Schema,
+    hub: &Hub,
+    domain: u32,
+    number: u64,
+) -> Result<Bytes, ExportFault>
+    requires { domain < length hub.now.world }
+    ensures { IsSnapshot schema.now number (newest hub.now domain) result }
+{
+    snapshot_of(alloc, schema, hub.trees_of(domain), number)
+}
+
+/// The same of the controller's own domain.
 pub fn own_snapshot(
     alloc: Global,
     schema: &Schema,

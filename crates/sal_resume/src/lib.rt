@@ -6,7 +6,8 @@
 //! | `frames_of`, `frames_since` | the frames of a domain of a hub, as bytes: all, and those from a commit on |
 //! | `frames_on` | those from a commit on, with any first number: they continue a stream over epochs |
 //! | `snapshot_of_newest` | one frame with all rows of a domain's newest commit: a stream may begin with it |
-//! | `own_frames`, `own_snapshot` | the same of the controller's own domain, by another version of its schema |
+//! | `frames_by`, `snapshot_by` | the same by another version of the domain's schema |
+//! | `own_frames`, `own_snapshot` | these of the controller's own domain |
 //! | `follower_of` | a follower that has taken such bytes |
 //! | `resume` | a hub without calls, whose opening trees are those of a follower |
 //!
@@ -30,7 +31,8 @@ mod resuming;
 mod stream;
 
 pub use frames::{
-    frames_of, frames_on, frames_since, own_frames, own_snapshot, snapshot_of_newest,
+    frames_by, frames_of, frames_on, frames_since, own_frames, own_snapshot, snapshot_by,
+    snapshot_of_newest,
 };
 pub use resuming::resume;
 pub use stream::follower_of;

@@ -29,7 +29,7 @@ pub fn resume(alloc: Global, follower: Follower, rules: Rules) -> Result<Hub, Op
     ensures whole { KeepsTheRules follower → IfErr result (λ fault. fault ≡ Full) }
     ensures leader { IfOk result (λ hub. OpensAtTheLeader follower hub.world) }
 {
-    let device = follower.into_device();
+    let device = follower.into_device()?;
     let devices = alone(alloc, device)?;
     Hub::open(alloc, devices, rules)
 }

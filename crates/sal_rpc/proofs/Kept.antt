@@ -17,9 +17,9 @@ use Rattle.sal_rpc.specs.declared.call.RpcReply.{RpcReply}
 use Rattle.sal_rpc.specs.declared.call.RpcReply.TheVariants.{Accepted, CallMade, Handed, Nothing, Refused}
 use Rattle.sal_rpc.specs.declared.routes.Sent.{Sent}
 use Rattle.sal_rpc.specs.declared.routes.Service.{Service}
-use Rattle.sal_rpc.specs.Answers.{Makes}
+use Rattle.sal_rpc.specs.Answers.{Gives, Makes}
 use Rattle.sal_rpc.specs.Routes.{Ends, IsKept, IsSent, Routes, answered, ends_in, ends_of, hand, is_by, is_open, next_reply, owner_in, provider_in, queue_in, request_of, sent_at, sent_with, service, service_cmp}
-use Rattle.sal_rpc.specs.Routing.{Asked, Made, Registration, Requested, answer_to, answers, handed, hands, is_handed, is_request, live, made_of, make, output, owner_of, provider, queue, reply_to, requested, requests, sent_to, waiting_from}
+use Rattle.sal_rpc.specs.Routing.{Asked, Made, Registration, Requested, answer_to, answers, gives, handed, hands, is_handed, is_request, live, made_of, make, output, owner_of, provider, queue, reply_to, requested, requests, sent_to, waiting_from}
 use Rattle.sal_rpc.proofs.Requested.{answer-more, handed-more, live-more, requests-more, or-false}
 use Rattle.sal_rpc.proofs.Sending.{as-many, get-map, get-more, get-within, sent-ends, sent-get, sent-length, written-from}
 use Rattle.sal_rpc.proofs.Services.{picked, picked-more, picked-without}
@@ -387,3 +387,26 @@ pub collect_refused : (r : Routes) (client id : ℕ) → is_by r.requests client
 collect_refused r client id other = makes r r client (Collect id) (Refused (NoCall id))
     (λ made kept. ap (λ b. if b then output (answer_to made id) else Refused (NoCall id)) (by-is made r kept client id ∙ other))
     (λ made kept. let m : Made = record { client = client; call = Collect id; reply = Refused (NoCall id); owner = None } in quiet made r m (live-more made m) refl (λ _. refl) (λ _. refl) kept)
+
+-- ---- what would be given
+
+pub next_gives : (r : Routes) (client : ℕ) (b : Bool) → b ≡ is_some (slice_get (queue_in r.queues client) 0) → Gives r client NextCall b
+next_gives r client b e calls kept = e ∙ of_reply (slice_get (queue_in r.queues client) 0) ∙ ap gives (sym (next-is (made_of calls) r kept client))
+  where
+    of_reply : (o : Option Request) → is_some o ≡ gives (next_reply o)
+    of_reply None = refl
+    of_reply (Some x) = refl
+
+of_output : (o : Option (List Row)) → is_some o ≡ gives (output o)
+of_output None = refl
+of_output (Some rows) = refl
+
+pub collect_gives : (r : Routes) (client id : ℕ) → is_by r.requests client id ≡ true → Gives r client (Collect id) (is_some (option_and_then (λ (s : Sent). s.answer) (sent_at r.requests id)))
+collect_gives r client id own calls kept =
+    let made : List Made = made_of calls in
+    of_output (option_and_then (λ (s : Sent). s.answer) (sent_at r.requests id))
+    ∙ ap (λ o. gives (output o)) (sym (rows-at made r kept client id own))
+    ∙ ap (λ b. gives (if b then output (answer_to made id) else Refused (NoCall id))) (sym (by-is made r kept client id ∙ own))
+
+pub collect_gives_none : (r : Routes) (client id : ℕ) → is_by r.requests client id ≡ false → Gives r client (Collect id) false
+collect_gives_none r client id other calls kept = ap (λ b. gives (if b then output (answer_to (made_of calls) id) else Refused (NoCall id))) (sym (by-is (made_of calls) r kept client id ∙ other))

@@ -1,12 +1,12 @@
 -- The effect of a call: the routes of one call more and the reply by the definition, or, if memory ran out, no change.
-use Rattle.std.specs.Prelude.{◌≡◌, ℕ, List, [], ◌∷◌, ◌++◌, Result, MatchResult}
+use Rattle.std.specs.Prelude.{◌≡◌, ℕ, Bool, List, [], ◌∷◌, ◌++◌, Result, MatchResult}
 use Rattle.sal_rpc.specs.declared.call.RpcCall.{RpcCall}
 use Rattle.sal_rpc.specs.declared.call.RpcFault.{RpcFault}
 use Rattle.sal_rpc.specs.declared.call.RpcFault.TheVariants.{NoProvider, ProviderTaken, NoCall, NoMemory}
 use Rattle.sal_rpc.specs.declared.call.RpcReply.{RpcReply}
 use Rattle.sal_rpc.specs.declared.call.RpcReply.TheVariants.{Refused}
 use Rattle.sal_rpc.specs.Routes.{IsOf, Routes}
-use Rattle.sal_rpc.specs.Routing.{Asked, made_of, reply_to}
+use Rattle.sal_rpc.specs.Routing.{Asked, gives, made_of, reply_to}
 
 -- The client's call was made: for any earlier calls, the routes are those of one call more, and the reply is theirs.
 pub record Makes (old new : Routes) (client : ℕ) (call : RpcCall) (reply : RpcReply) : Type 0 where
@@ -37,3 +37,7 @@ Answers old new client call good result = MatchResult result (λ x. Makes old ne
 -- the same for a call that takes no memory
 abbrev pub AnswersAlways : {X : Type 0} → Routes → Routes → ℕ → RpcCall → (X → RpcReply) → Result X RpcFault → Type 0
 AnswersAlways old new client call good result = MatchResult result (λ x. Makes old new client call (good x)) (Refuses old new client call)
+
+-- whether the client's call, made now, would be given something, for any earlier calls
+abbrev pub Gives : Routes → ℕ → RpcCall → Bool → Type 0
+Gives r client call b = (calls : List Asked) → IsOf calls r → b ≡ gives (reply_to (made_of calls) client call)

@@ -131,6 +131,15 @@ reply_to made client (Answer id rows) =
     if is_request made id (λ r. nat_eq r.owner client) && is_handed made id && not (is_some (answer_to made id)) then Accepted else Refused (NoCall id)
 reply_to made client (Collect id) = if is_request made id (λ r. nat_eq r.by client) then output (answer_to made id) else Refused (NoCall id)
 
+-- the reply hands something over: a request, or the rows of an answer
+abbrev pub gives : RpcReply → Bool
+gives Accepted = false
+gives (CallMade id) = false
+gives (Handed request) = true
+gives (Output rows) = true
+gives Nothing = false
+gives (Refused fault) = false
+
 -- the client to which the request goes that a call makes
 abbrev pub sent_to : List Made → RpcCall → Option ℕ
 sent_to made (Invoke rpc context input) = owner_of made rpc context

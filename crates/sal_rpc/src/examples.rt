@@ -2,11 +2,11 @@
 //! proof computes it. The RPC is 5; contexts are the paths of the nodes 1 and 2.
 #![tactic(auto)]
 
-ghost use Rattle.std.specs.Prelude.{◌≡◌, [], ◌∷◌, None, Some};
+ghost use Rattle.std.specs.Prelude.{◌≡◌, [], ◌∷◌, None, Some, false, true};
 ghost use Rattle.sal_rpc.specs.declared.call.RpcCall.TheVariants.{Provide, Withdraw, Invoke, NextCall, Answer, Collect};
 ghost use Rattle.sal_rpc.specs.declared.call.RpcFault.TheVariants.{NoProvider, ProviderTaken, NoCall};
 ghost use Rattle.sal_rpc.specs.declared.call.RpcReply.TheVariants.{Accepted, CallMade, Handed, Output, Nothing, Refused};
-ghost use Rattle.sal_rpc.specs.Examples.{by, replies, rows, there};
+ghost use Rattle.sal_rpc.specs.Examples.{by, gets, replies, rows, there};
 
 /// The registration for the exact context is used before the one without a context, which serves all others.
 pub fn the_exact_context_goes_first()
@@ -38,4 +38,14 @@ pub fn collected_before_and_behind()
 pub fn one_provider_for_each_context()
     ensures { replies (by 1 (Provide 5 None) ∷ by 2 (Provide 5 None) ∷ by 2 (Provide 5 (Some (there 1))) ∷ by 2 (Provide 6 None) ∷ by 2 (Withdraw 5 None) ∷ by 1 (Withdraw 5 None) ∷ by 2 (Provide 5 None) ∷ [])
         ≡ Accepted ∷ Refused (ProviderTaken 5) ∷ Accepted ∷ Accepted ∷ Refused (NoProvider 5) ∷ Accepted ∷ Accepted ∷ [] }
+{}
+
+/// A request waits for its provider until that client takes it, and its answer for the client that made it from the answer on.
+pub fn waits_for_its_provider_and_its_client()
+    ensures made { gets (by 1 (Provide 5 None) ∷ by 0 (Invoke 5 None (rows 8)) ∷ []) 1 NextCall ≡ true }
+    ensures other { gets (by 1 (Provide 5 None) ∷ by 0 (Invoke 5 None (rows 8)) ∷ []) 0 NextCall ≡ false }
+    ensures taken { gets (by 1 (Provide 5 None) ∷ by 0 (Invoke 5 None (rows 8)) ∷ by 1 NextCall ∷ []) 1 NextCall ≡ false }
+    ensures open { gets (by 1 (Provide 5 None) ∷ by 0 (Invoke 5 None (rows 8)) ∷ by 1 NextCall ∷ []) 0 (Collect 1) ≡ false }
+    ensures answered { gets (by 1 (Provide 5 None) ∷ by 0 (Invoke 5 None (rows 8)) ∷ by 1 NextCall ∷ by 1 (Answer 1 (rows 7)) ∷ []) 0 (Collect 1) ≡ true }
+    ensures provider { gets (by 1 (Provide 5 None) ∷ by 0 (Invoke 5 None (rows 8)) ∷ by 1 NextCall ∷ by 1 (Answer 1 (rows 7)) ∷ []) 1 (Collect 1) ≡ false }
 {}

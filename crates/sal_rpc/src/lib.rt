@@ -32,6 +32,8 @@
 //! | `Router::next_call` | a search among c queues; no memory, and nothing is copied |
 //! | `Router::answer` | constant, no memory |
 //! | `Router::collect` | a copy of the answer |
+//! | `Router::has_request` | a search among c queues; no memory |
+//! | `Router::has_answer` | constant, no memory |
 //!
 //! A search compares some log n contexts or numbers. The input of a request is moved out when it is taken; its clients and its answer stay
 //! in memory, as the answer may be collected again, so memory grows with r.

@@ -3,7 +3,7 @@ ghost use Rattle.std.specs.Prelude.{◌≡◌, ◌+◌, ◌&&◌, ◌++◌, ◌�
 ghost use Rattle.sal_types.specs.declared.value.Step.{Step};
 ghost use Rattle.sal_rpc.specs.declared.call.RpcCall.TheVariants.{Provide, Withdraw, Invoke, NextCall, Answer, Collect};
 ghost use Rattle.sal_rpc.specs.declared.call.RpcReply.TheVariants.{Accepted, CallMade};
-ghost use Rattle.sal_rpc.specs.Answers.{Answers, AnswersAlways, Makes};
+ghost use Rattle.sal_rpc.specs.Answers.{Answers, AnswersAlways, Gives, Makes};
 ghost use Rattle.std.specs.BTreeMap.{is_at};
 ghost use Rattle.std.specs.Option.{option_and_then, option_copied, option_map_or};
 ghost use Rattle.sal_rpc.specs.declared.routes.Service.{Service as Place};
@@ -159,6 +159,20 @@ impl Router {
             Err(NoMemory) => Err(RpcFault::NoMemory),
         }
     }
+
+    /// Whether a request waits for the client: whether `next_call` would return one. It takes no memory.
+    pub fn has_request(&self, client: u32) -> bool
+        ensures { Gives self.now client NextCall result }
+    {
+        waits(&self.queues, client)
+    }
+
+    /// Whether the client made the request and it is answered: whether `collect` would return its rows. It takes no memory.
+    pub fn has_answer(&self, client: u32, id: u64) -> bool
+        ensures { Gives self.now client (Collect id) result }
+    {
+        is_by(&self.requests, client, id) && is_answered(&self.requests, id)
+    }
 }
 
 fn register(
@@ -236,6 +250,16 @@ fn next_of(queues: &mut BTreeMap<u32, Queue>, client: u32) -> Option<Request>
     }
 }
 
+// Whether a request waits for the client.
+fn waits(queues: &BTreeMap<u32, Queue>, client: u32) -> bool
+    ensures { result ≡ is_some (slice_get (queue_in queues.now.entries client) 0) }
+{
+    match queues.get(&client) {
+        None => false,
+        Some(queue) => queue.has_any(),
+    }
+}
+
 // Marks the request as taken.
 fn hand_out(requests: &mut Vec<Sent>, id: u64)
     ensures { requests.new.items ≡ sent_with hand requests.old.items id }
@@ -280,6 +304,15 @@ fn is_by(requests: &[Sent], client: u32, id: u64) -> bool
     match find(requests, id) {
         None => false,
         Some(sent) => sent.by == client,
+    }
+}
+
+fn is_answered(requests: &[Sent], id: u64) -> bool
+    ensures { result ≡ is_some (option_and_then (λ (s : Record). s.answer) (sent_at requests.now id)) }
+{
+    match find(requests, id) {
+        None => false,
+        Some(sent) => sent.answer.is_some(),
     }
 }
 

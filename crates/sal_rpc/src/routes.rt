@@ -1,5 +1,5 @@
 //! The router's registrations and requests.
-ghost use Rattle.std.specs.Prelude.{◌≡◌, [], ◌∷◌, ◌++◌, drop, slice_get, IfOk, OnErr, OnOk};
+ghost use Rattle.std.specs.Prelude.{◌≡◌, [], ◌∷◌, ◌++◌, drop, is_some, slice_get, IfOk, OnErr, OnOk};
 
 use crate::call::Request;
 use sal_rows::Rows;
@@ -66,6 +66,13 @@ impl Queue {
     {
         self.list.push_back(request)?;
         Ok(())
+    }
+
+    /// Whether a request waits. It takes no memory.
+    pub(crate) fn has_any(&self) -> bool
+        ensures { result ≡ is_some (slice_get self.now 0) }
+    {
+        !self.list.is_empty()
     }
 
     /// Takes the first request, if one waits. It takes no memory.

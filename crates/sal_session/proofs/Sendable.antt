@@ -6,6 +6,8 @@ use Rattle.serde_json.specs.contracts.value.Value as Value
 use Rattle.serde_json.proofs.value.Value.TheLaws.TheKnot as Value-knot
 use Rattle.sal_types.proofs.seq.Seq.TheSendSync as Seq-here
 use Rattle.sal_types.proofs.text.Str.TheSendSync as Str-here
+use Rattle.sal_types.proofs.value.Cell.TheSendSync as Cell-here
+use Rattle.sal_types.proofs.value.Step.TheSendSync as Step-here
 use Rattle.sal_types.proofs.value.Store.TheSendSync as Store-here
 use Rattle.sal_rows.proofs.clash.Rules.TheSendSync as Rules-here
 use Rattle.sal_rows.proofs.outcome.Mode.TheSendSync as Mode-here
@@ -14,7 +16,12 @@ use Rattle.sal_script.specs.contracts.script.ScriptStep as ScriptStep
 use Rattle.sal_script.specs.contracts.script.Script as Script
 use Rattle.sal_client.specs.contracts.reader.Reader as Reader
 use Rattle.sal_client.specs.contracts.readers.Readers as Readers
-use Rattle.sal_follow.proofs.twin.Twin.TheSendSync as Twin-here
+use Rattle.sal_node.specs.contracts.node.Node as Node
+use Rattle.sal_node.proofs.node.Node.TheLaws.TheKnot as Node-knot
+use Rattle.sal_tree.specs.contracts.root.Root as Root
+use Rattle.sal_rowtree.specs.contracts.row_tree.RowTree as RowTree
+use Rattle.sal_follow.proofs.fault.FollowFault.TheSendSync as FollowFault-here
+use Rattle.sal_follow.specs.contracts.state.State as State
 use Rattle.sal_follow.specs.contracts.follower.Follower as Follower
 use Rattle.sal_prepare.specs.contracts.domains.Schemas as Schemas
 use Rattle.sal_prepare.specs.contracts.resumed.Ground as Ground
@@ -52,8 +59,23 @@ Leader-field_send = search (Embedded-send, crosses, maps.crosses, sendable) dept
 
 -- ---- a stand-by
 
+Node-send : IsSend Node.the_row
+Node-send = search (Node-knot.crosses, Step-here.the_send, Step-here.the_sync, Cell-here.the_send, Cell-here.the_sync, crosses, maps.crosses, sendable) depth 40 fits 20000
+
+Node-sync : IsSync Node.the_row
+Node-sync = search (Node-knot.crosses, Step-here.the_send, Step-here.the_sync, Cell-here.the_send, Cell-here.the_sync, crosses, maps.crosses, sendable) depth 40 fits 20000
+
+Root-send : IsSend Root.the_row
+Root-send = search (Node-send, Node-sync, crosses, maps.crosses, sendable) depth 40 fits 20000
+
+RowTree-send : IsSend RowTree.the_row
+RowTree-send = search (Root-send, crosses, maps.crosses, sendable) depth 40 fits 20000
+
+State-field_send : IsSend (State.the_field).row
+State-field_send = search (FollowFault-here.the_send, RowTree-send, crosses, maps.crosses, sendable) depth 40 fits 20000
+
 Follower-send : IsSend Follower.the_row
-Follower-send = search (Schema-send, Schema-sync, Patterns-send, Patterns-sync, Twin-here.the_field_send, crosses, maps.crosses, sendable) depth 40 fits 20000
+Follower-send = search (Schema-send, Schema-sync, Patterns-send, Patterns-sync, State-field_send, crosses, maps.crosses, sendable) depth 40 fits 20000
 
 Value-field_send : IsSend (Value.the_field).row
 Value-field_send = search (Value-knot.crosses, crosses, maps.crosses, sendable) depth 40 fits 20000

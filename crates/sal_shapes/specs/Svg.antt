@@ -5,9 +5,10 @@ use Rattle.sal_shapes.specs.declared.scene.Picture.{Picture}
 use Rattle.sal_shapes.specs.declared.scene.Shape.{Shape}
 use Rattle.sal_shapes.specs.declared.scene.Shape.TheVariants.{Area, Line, Point, Words}
 use Rattle.sal_shapes.specs.declared.scene.Size.{Size}
+use Rattle.sal_shapes.specs.declared.scene.Spot.{Spot}
 use Rattle.sal_shapes.specs.declared.scene.Style.{Style}
-use Rattle.sal_shapes.specs.declared.scene.Style.TheVariants.{Lane, Bar, Axis, Stands, Makes, Told, Clash, Fails, Gives, Hands, Found, Chained, Commit, Opening, Refusal, Heading, Shared, Local, Refused, Place, Number}
-use Rattle.sal_shapes.specs.declared.svg.TheConstants.{HEAD, LEGEND, STYLES}
+use Rattle.sal_shapes.specs.declared.scene.Style.TheVariants.{Lane, Bar, Axis, Stands, Makes, Told, Clash, Fails, Gives, Hands, Found, Chained, Commit, Opening, Refusal, Heading, Shared, Local, Refused, Place, Number, Beside, Meaning}
+use Rattle.sal_shapes.specs.declared.svg.TheConstants.{HEAD, STYLES}
 
 -- ---- texts
 
@@ -37,6 +38,10 @@ attribute name n = 32 ∷ (name ++ (codes "='" ++ (decimal n ++ codes "'")))
 abbrev pub two : List ℕ → ℕ → List ℕ → ℕ → List ℕ
 two name n other m = attribute name n ++ attribute other m
 
+-- a place on a line
+abbrev pub place : Spot → List ℕ
+place s = decimal s.x ++ (codes "," ++ (decimal s.y ++ codes " "))
+
 -- the class of a style
 abbrev pub class_of : Style → List ℕ
 class_of Lane = codes "lane"
@@ -60,6 +65,8 @@ class_of Local = codes "local"
 class_of Refused = codes "refused"
 class_of Place = codes "place"
 class_of Number = codes "number"
+class_of Beside = codes "beside"
+class_of Meaning = codes "meaning"
 
 -- the beginning of an element
 abbrev pub element : List ℕ → Style → List ℕ
@@ -71,7 +78,7 @@ words text title = codes "><title>" ++ (escaped title ++ (codes "</title>" ++ (e
 
 abbrev pub shape_text : Shape → List ℕ
 shape_text (Area style at size) = element (codes "rect") style ++ (two (codes "x") at.x (codes "y") at.y ++ (two (codes "width") size.width (codes "height") size.height ++ codes "/>\n"))
-shape_text (Line style from to) = element (codes "line") style ++ (two (codes "x1") from.x (codes "y1") from.y ++ (two (codes "x2") to.x (codes "y2") to.y ++ codes "/>\n"))
+shape_text (Line style from by to) = element (codes "polyline") style ++ (codes " points='" ++ (place from ++ (place by ++ (place to ++ codes "'/>\n"))))
 shape_text (Point style at) = element (codes "circle") style ++ (two (codes "cx") at.x (codes "cy") at.y ++ codes " r='4'/>\n")
 shape_text (Words style at text title) = element (codes "text") style ++ (two (codes "x") at.x (codes "y") at.y ++ words text title)
 
@@ -80,9 +87,5 @@ shape_text (Words style at text title) = element (codes "text") style ++ (two (c
 abbrev pub head_text : Size → List ℕ
 head_text size = HEAD.now ++ (two (codes "width") size.width (codes "height") size.height ++ (codes ">\n" ++ STYLES.now))
 
--- the legend is below
-abbrev pub tail_text : ℕ → List ℕ
-tail_text y = codes "<g transform='translate(8," ++ (decimal y ++ (codes ")'>\n" ++ (LEGEND.now ++ codes "</g>\n</svg>\n")))
-
 abbrev pub svg_of : Picture → List ℕ
-svg_of p = head_text p.size ++ (flat_map shape_text p.shapes ++ tail_text p.legend)
+svg_of p = head_text p.size ++ (flat_map shape_text p.shapes ++ codes "</svg>\n")

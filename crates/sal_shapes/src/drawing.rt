@@ -4,6 +4,7 @@ ghost use Rattle.std.specs.List.{flat_map, fold, enumerate_from};
 ghost use Rattle.sal_shapes.specs.Shapes as spec;
 
 use crate::frame::{Frame, Here, TOP, frame_of, lane_x, row_y};
+use crate::legend::{straight, with_legend};
 use crate::marks::{domain_heading, lane_heading, number_words, place_words, row_label};
 use crate::scene::{Act, Picture, Pin, Row, Scene, Shape, Size, Spot, Style};
 use sal_types::{NoMemory, Seq, Str, append};
@@ -11,11 +12,8 @@ use std::alloc::Global;
 use std::collections::BTreeMap;
 use std::marker::Model;
 
-/// The height of the legend, in pixels.
-const LEGEND_HEIGHT: u64 = 226;
-
-/// Its width.
-const LEGEND_WIDTH: u64 = 520;
+/// The width of the legend, in pixels.
+const LEGEND_WIDTH: u64 = 470;
 
 /// The picture so far. A contract sees it as its definition.
 #[derive(Drop)]
@@ -134,10 +132,9 @@ impl Drawing {
         if !here.shown {
             return Ok(());
         }
-        let to = self.frame.end_of(here, pin);
         match self.found(pin) {
             None => Ok(()),
-            Some(from) => append(&mut self.lines, Shape::Line { style, from, to }),
+            Some(from) => append(&mut self.lines, self.frame.line_of(here, style, pin, from)),
         }
     }
 
@@ -289,11 +286,7 @@ impl Drawing {
         let opening = Pin::Commit { domain, number: 0 };
         let from = self.height_of(opening, TOP);
         let to = self.height_of(Pin::Gone { domain }, row_y(self.rows));
-        Shape::Line {
-            style: Style::Axis,
-            from: Spot { x, y: from },
-            to: Spot { x, y: to },
-        }
+        straight(Style::Axis, Spot { x, y: from }, Spot { x, y: to })
     }
 
     // The shapes of the domains' lanes.
@@ -321,7 +314,6 @@ impl Drawing {
         self.lanes(alloc, &mut shapes, names)?;
         self.columns(alloc, &mut shapes)?;
         let size = self.size();
-        let legend = row_y(self.rows);
         let Drawing {
             mut lines,
             mut marks,
@@ -329,21 +321,19 @@ impl Drawing {
         } = self;
         shapes.append(&mut lines)?;
         shapes.append(&mut marks)?;
-        Ok(Picture {
-            size,
-            legend,
-            shapes: Seq::from_items(shapes),
-        })
+        with_legend(alloc, size, shapes)
     }
 
+    // The size without the legend.
     fn size(&self) -> Size
         requires { self.now.rows < 2 ^ 32 }
-        ensures { result ≡ spec.size_of self.now }
+        ensures size { result ≡ spec.size_of self.now }
+        ensures high { result.height ≤ 2 ^ 42 }
     {
         let width = self.frame.side + 40 + 70 * (self.frame.domains.items().len() as u64);
         Size {
             width: u64::max(LEGEND_WIDTH, width),
-            height: row_y(self.rows) + LEGEND_HEIGHT,
+            height: row_y(self.rows),
         }
     }
 }

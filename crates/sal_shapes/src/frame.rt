@@ -3,7 +3,7 @@ ghost use Rattle.std.specs.Prelude.{◌≡◌, ◌<◌, ◌≤◌, ◌^◌, leng
 ghost use Rattle.std.specs.List.{fold, position_or_len};
 ghost use Rattle.sal_shapes.specs.Shapes as spec;
 
-use crate::scene::{Pin, Row, Spot};
+use crate::scene::{Pin, Row, Shape, Spot, Style};
 use sal_types::Seq;
 
 /// The largest number of rows, lanes or domains of a picture.
@@ -43,8 +43,11 @@ fn longest(rows: &[Row]) -> usize
 // The number of bytes of a label that are shown.
 fn room_for(lanes: u32) -> usize
     ensures room { result ≡ spec.room_for lanes }
-    ensures few { result ≤ 42 }
+    ensures few { result ≤ 56 }
 {
+    if lanes < 3 {
+        return 56;
+    }
     if lanes < 5 {
         return 42;
     }
@@ -52,15 +55,15 @@ fn room_for(lanes: u32) -> usize
 }
 
 fn width_of(room: usize, rows: &[Row]) -> u64
-    requires { room ≤ 42 }
+    requires { room ≤ 56 }
     ensures width { result ≡ spec.width_of room rows.now }
-    ensures narrow { result ≤ 400 }
+    ensures narrow { result ≤ 450 }
 {
     40 + 7 * (usize::min(room + 2, longest(rows)) as u64)
 }
 
 pub(crate) fn lane_x(width: u64, lane: u32) -> u64
-    requires { width ≤ 400 }
+    requires { width ≤ 450 }
     ensures x { result ≡ spec.lane_x width lane }
     ensures near { result ≤ 2 ^ 42 }
 {
@@ -110,15 +113,50 @@ impl Frame {
         Spot { x, y: here.y }
     }
 
-    /// The end of a line from the pin to the entry.
-    pub(crate) fn end_of(&self, here: Here, pin: Pin) -> Spot
+    /// A line from this spot of the pin to the entry.
+    pub(crate) fn line_of(&self, here: Here, style: Style, pin: Pin, from: Spot) -> Shape
         requires fits { spec.Fits self.now }
         requires near { spec.IsNear here }
-        ensures { result ≡ spec.end_of self.now here pin }
+        ensures { result ≡ spec.line_of style self.now here pin from }
+    {
+        Shape::Line {
+            style,
+            from,
+            by: self.bend_of(here, pin, from),
+            to: self.end_of(here, from),
+        }
+    }
+
+    // The right side of a lane.
+    fn right_of(&self, here: Here) -> u64
+        requires fits { spec.Fits self.now }
+        requires near { spec.IsNear here }
+        ensures { result ≡ spec.right_of self.now here }
+    {
+        (here.x + self.width).saturating_sub(14)
+    }
+
+    // The end of a line to the entry.
+    fn end_of(&self, here: Here, from: Spot) -> Spot
+        requires fits { spec.Fits self.now }
+        requires near { spec.IsNear here }
+        ensures { result ≡ spec.end_of self.now here from }
+    {
+        let x = if here.x + self.width < from.x {
+            self.right_of(here)
+        } else {
+            here.x + 19
+        };
+        Spot { x, y: here.y }
+    }
+
+    // Where a line from the pin to the entry bends.
+    fn bend_of(&self, here: Here, pin: Pin, from: Spot) -> Spot
+        ensures { result ≡ spec.bend_of self.now here pin from }
     {
         let x = match domain_of(pin) {
-            None => here.x + 19,
-            Some(_) => (here.x + self.width).saturating_sub(14),
+            None => from.x,
+            Some(_) => self.side,
         };
         Spot { x, y: here.y }
     }

@@ -3,7 +3,7 @@
 //! | item | what it is |
 //! |---|---|
 //! | `Row`, `Scene`, `Act`, `Pin` | a row with its texts, the pins that it sets and its lines; the lanes, the domains and the rows |
-//! | `label_of` | the label of a row, cut after a whole character |
+//! | `label_of` | the label of a row |
 //! | `picture_of`, `Picture`, `Shape`, `Style` | the shapes of a scene: areas, lines, points and texts, in pixels |
 //! | `svg_of` | the text of a picture |
 //! | `scene_text` | both: from a scene to its text |
@@ -16,14 +16,15 @@
 //! let text = svg_of(alloc, &picture)?;
 //! ```
 //!
-//! Cost: one look-up in a map for each pin and line, so n log n in the acts; otherwise linear in the rows, in the domains for each line to one, and
-//! in the text. A hostile text cannot end its element: `specs/Svg` escapes markup and control characters.
+//! Cost: one look-up in a map for each pin and line, so n log n in the acts; fifteen looks at each shape for the legend; otherwise linear in the rows,
+//! in the domains for each line to one, and in the text. A hostile text cannot end its element: `specs/Svg` escapes markup and control characters.
 #![tactic(auto)]
 
 pub mod drawing;
 pub mod examples;
 pub mod frame;
 mod labels;
+pub mod legend;
 mod marks;
 mod pieces;
 pub mod scene;

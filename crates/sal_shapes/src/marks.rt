@@ -1,10 +1,10 @@
 //! The texts of the picture, with their positions.
 ghost use Rattle.std.specs.Prelude.{◌≡◌, ◌≤◌, ◌+◌, ◌-◌, ◌^◌, IfOk, codes, decimal, if◌then◌else◌, nat_lt};
-ghost use Rattle.sal_shapes.specs.Labels.{cut};
+ghost use Rattle.sal_shapes.specs.Labels.{shown};
 ghost use Rattle.sal_shapes.specs.Shapes as spec;
 
 use crate::frame::Here;
-use crate::labels::push_cut;
+use crate::labels::push_shown;
 use crate::pieces::{push, push_number};
 use crate::scene::{Row, Shape, Spot, Style};
 use sal_types::{NoMemory, Seq, Str};
@@ -19,8 +19,8 @@ fn bytes(alloc: Global, text: &[u8]) -> Result<Seq<u8>, NoMemory>
     Ok(Seq::from_items(list))
 }
 
-// A text that is its own title.
-fn plain(alloc: Global, style: Style, at: Spot, text: &[u8]) -> Result<Shape, NoMemory>
+/// A text that is its own title.
+pub(crate) fn plain(alloc: Global, style: Style, at: Spot, text: &[u8]) -> Result<Shape, NoMemory>
     ensures { IfOk result (λ it. it ≡ Shape.Words style at text.now text.now) }
 {
     let title = bytes(alloc, text)?;
@@ -54,6 +54,16 @@ fn number_text(alloc: Global, before: u64, n: u64) -> Result<Seq<u8>, NoMemory>
     Ok(Seq::from_items(text))
 }
 
+fn number_style(before: u64) -> Style
+    ensures { result ≡ (if nat_lt 0 before then Style.Beside else Style.Number) }
+{
+    if before > 0 {
+        Style::Beside
+    } else {
+        Style::Number
+    }
+}
+
 fn number_title(alloc: Global, n: u64) -> Result<Seq<u8>, NoMemory>
     ensures { IfOk result (λ it. it ≡ decimal n) }
 {
@@ -80,7 +90,7 @@ pub(crate) fn number_words(
     let title = number_title(alloc, n)?;
     let text = number_text(alloc, before, n)?;
     Ok(Shape::Words {
-        style: Style::Number,
+        style: number_style(before),
         at,
         text,
         title,
@@ -95,16 +105,16 @@ pub(crate) fn place_words(alloc: Global, y: u64, place: u64) -> Result<Shape, No
     number(alloc, Style::Place, Spot { x: 40, y: y + 4 }, place)
 }
 
-// The first characters of a text, `room` bytes of it.
-fn cut(alloc: Global, room: usize, text: &[u8]) -> Result<Seq<u8>, NoMemory>
-    ensures { IfOk result (λ it. it ≡ cut room text.now) }
+// What is shown of a label.
+fn shown(alloc: Global, room: usize, text: &[u8]) -> Result<Seq<u8>, NoMemory>
+    ensures { IfOk result (λ it. it ≡ shown room text.now) }
 {
     let mut list = Vec::new(alloc);
-    push_cut(&mut list, room, text)?;
+    push_shown(alloc, &mut list, room, text)?;
     Ok(Seq::from_items(list))
 }
 
-/// The label of a row, cut to `room` bytes, with its title.
+/// What is shown of a row's label, `room` bytes of it, with its title.
 pub(crate) fn row_label(
     alloc: Global,
     here: Here,
@@ -112,9 +122,9 @@ pub(crate) fn row_label(
     row: &Row,
 ) -> Result<Shape, NoMemory>
     requires { spec.IsNear here }
-    ensures { IfOk result (λ it. it ≡ Shape.Words row.now.style (spec.spot (here.x + 27) (here.y + 4)) (cut room row.now.label) row.now.title) }
+    ensures { IfOk result (λ it. it ≡ Shape.Words row.now.style (spec.spot (here.x + 27) (here.y + 4)) (shown room row.now.label) row.now.title) }
 {
-    let text = cut(alloc, room, row.label.items())?;
+    let text = shown(alloc, room, row.label.items())?;
     let title = bytes(alloc, row.title.items())?;
     let at = Spot {
         x: here.x + 27,

@@ -20,6 +20,8 @@ pub enum Pin {
     Output { id: u64 },
     /// The mark, where it was set last.
     Mark { mark: u32 },
+    /// The accepted offer of the notification with this number, from 0 on.
+    Offer { note: u32, number: u64 },
 }
 
 /// How a shape looks, by its meaning.
@@ -43,7 +45,7 @@ pub enum Style {
     Fails,
     /// From a commit to the batch that has it.
     Gives,
-    /// From a request to the client that took it, or from its answer.
+    /// From a request or a notification to the client that took it, or from an answer.
     Hands,
     /// From a mark to where it was found.
     Found,
@@ -67,6 +69,10 @@ pub enum Style {
     Place,
     /// The number of a commit.
     Number,
+    /// The number of a further commit at the same point, or two dots.
+    Beside,
+    /// A text of the legend.
+    Meaning,
 }
 
 /// What an entry shows in addition to its texts.
@@ -122,7 +128,7 @@ pub struct Size {
     pub height: u64,
 }
 
-/// A shape, in pixels from the upper left corner.
+/// A shape, in pixels from the upper left corner. A line bends at the spot `by`.
 #[derive(Drop)]
 pub enum Shape {
     Area {
@@ -133,6 +139,7 @@ pub enum Shape {
     Line {
         style: Style,
         from: Spot,
+        by: Spot,
         to: Spot,
     },
     Point {
@@ -147,10 +154,9 @@ pub enum Shape {
     },
 }
 
-/// A picture: its size in pixels, the height of its legend, and its shapes, the lower ones first.
+/// A picture: its size in pixels, and its shapes, the lower ones first.
 #[derive(Drop)]
 pub struct Picture {
     pub size: Size,
-    pub legend: u64,
     pub shapes: Seq<Shape>,
 }

@@ -16,29 +16,13 @@ pub const HEAD: &str =
 pub const STYLES: &str =
     "<defs><marker id='arrow' viewBox='0 0 8 8' refX='7' refY='4' markerWidth='8' markerHeight='8' orient='auto'><path d='M0 0L8 4L0 8z' fill='#6a2ca0'/></marker></defs>\n\
 <style>.paper{fill:#fff}.lane{fill:#f3f4f7}.bar{fill:#b9cfee;stroke:#4a6fa5;stroke-width:.7}\n\
-line{fill:none}.axis{stroke:#aaa}.stands{stroke:#8a6d00;stroke-width:.8}.makes{stroke:#1b6e2f;stroke-width:1.6}\n\
+polyline{fill:none}.axis{stroke:#aaa}.stands{stroke:#8a6d00;stroke-width:.8}.makes{stroke:#1b6e2f;stroke-width:1.6}\n\
 .told{stroke:#1b6e2f;stroke-dasharray:2 3}.clash{stroke:#b00020;stroke-width:1.4;stroke-dasharray:7 3}\n\
 .fails{stroke:#b00020;stroke-width:1.4;stroke-dasharray:8 2 2 2}.gives{stroke:#1f5fbf;stroke-dasharray:4 2 1 2}\n\
 .hands{stroke:#6a2ca0;marker-end:url(#arrow)}.found{stroke:#555;stroke-dasharray:1 4}.chained{stroke:#c26a00;stroke-width:3;stroke-dasharray:3 2}\n\
 .commit{fill:#1b6e2f}.opening{fill:#fff;stroke:#1b6e2f}.refusal{fill:#fff;stroke:#b00020;stroke-width:1.4}\n\
-text{white-space:pre}.heading{font-weight:bold}.local{fill:#777}.refused{fill:#b00020;font-style:italic}.place{fill:#888;text-anchor:end}.number{fill:#1b6e2f}</style>\n\
+text{white-space:pre}.heading{font-weight:bold}.local{fill:#777}.refused{fill:#b00020;font-style:italic}.place{fill:#888;text-anchor:end}.number,.beside{fill:#1b6e2f}</style>\n\
 <rect class='paper' width='100%' height='100%'/>\n";
-
-/// The meaning of each style, below the picture.
-pub const LEGEND: &str =
-    "<rect class='bar' x='16' y='8' width='4' height='11'/><text x='50' y='17'>a transaction, from begin to submit or cancel; gray: its local steps</text>\n\
-<line class='stands' x1='0' y1='29' x2='40' y2='29'/><text x='50' y='33'>the commit, or the pending submission, on which it stands</text>\n\
-<line class='makes' x1='0' y1='45' x2='40' y2='45'/><text x='50' y='49'>the entry that decided a commit</text>\n\
-<line class='told' x1='0' y1='61' x2='40' y2='61'/><text x='50' y='65'>who is told of it as its own</text>\n\
-<line class='clash' x1='0' y1='77' x2='40' y2='77'/><text x='50' y='81'>a conflict, and the commit that it names</text>\n\
-<line class='fails' x1='0' y1='93' x2='40' y2='93'/><text x='50' y='97'>what a chain failed by, or the end of the domain</text>\n\
-<line class='gives' x1='0' y1='109' x2='40' y2='109'/><text x='50' y='113'>a commit in a listener's batch</text>\n\
-<line class='hands' x1='0' y1='125' x2='40' y2='125'/><text x='50' y='129'>a request to the client that was handed it, or its answer</text>\n\
-<line class='found' x1='0' y1='141' x2='40' y2='141'/><text x='50' y='145'>a mark, and where it was found</text>\n\
-<line class='chained' x1='0' y1='157' x2='40' y2='157'/><text x='50' y='161'>one transaction of a chain to the next</text>\n\
-<circle class='commit' cx='18' cy='173' r='4'/><text x='50' y='177'>a commit, with its number</text>\n\
-<circle class='opening' cx='18' cy='189' r='4'/><text x='50' y='193'>a domain's opening, or its end</text>\n\
-<circle class='refusal' cx='18' cy='205' r='4'/><text class='refused' x='50' y='209'>refused</text>\n";
 
 /// The text of a picture, as Scalable Vector Graphics. It fails only if memory runs out.
 pub fn svg_of(alloc: Global, picture: &Picture) -> Result<Vec<u8>, NoMemory>
@@ -47,7 +31,7 @@ pub fn svg_of(alloc: Global, picture: &Picture) -> Result<Vec<u8>, NoMemory>
     let mut out = Vec::new(alloc);
     push_head(alloc, &mut out, picture)?;
     push_shapes(alloc, &mut out, picture.shapes.items())?;
-    push_tail(alloc, &mut out, picture.legend)?;
+    push(&mut out, "</svg>\n")?;
     Ok(out)
 }
 
@@ -58,16 +42,6 @@ fn push_head(alloc: Global, out: &mut Vec<u8>, picture: &Picture) -> Result<(), 
     push_size(alloc, out, picture.size)?;
     push(out, ">\n")?;
     push(out, STYLES)
-}
-
-fn push_tail(alloc: Global, out: &mut Vec<u8>, y: u64) -> Result<(), NoMemory>
-    ensures { OnOk result (out.new.items ≡ out.old.items ++ spec.tail_text y) }
-{
-    push(out, "<g transform='translate(8,")?;
-    push_number(alloc, out, y)?;
-    push(out, ")'>\n")?;
-    push(out, LEGEND)?;
-    push(out, "</g>\n</svg>\n")
 }
 
 fn push_shapes(alloc: Global, out: &mut Vec<u8>, shapes: &[Shape]) -> Result<(), NoMemory>
@@ -87,9 +61,15 @@ fn push_shape(alloc: Global, out: &mut Vec<u8>, shape: &Shape) -> Result<(), NoM
             push_element(out, "rect", *style)?;
             push_area(alloc, out, *at, *size)
         }
-        Shape::Line { style, from, to } => {
-            push_element(out, "line", *style)?;
-            push_line(alloc, out, *from, *to)
+        Shape::Line {
+            style,
+            from,
+            by,
+            to,
+        } => {
+            push_element(out, "polyline", *style)?;
+            push_points(alloc, out, *from, *by)?;
+            push_last(alloc, out, *to)
         }
         Shape::Point { style, at } => {
             push_element(out, "circle", *style)?;
@@ -116,14 +96,29 @@ fn push_area(alloc: Global, out: &mut Vec<u8>, at: Spot, size: Size) -> Result<(
     push(out, "/>\n")
 }
 
-fn push_line(alloc: Global, out: &mut Vec<u8>, from: Spot, to: Spot) -> Result<(), NoMemory>
-    ensures { OnOk result (out.new.items ≡ out.old.items ++ (spec.two (codes "x1") from.x (codes "y1") from.y ++ (spec.two (codes "x2") to.x (codes "y2") to.y ++ codes "/>\n"))) }
+fn push_points(alloc: Global, out: &mut Vec<u8>, from: Spot, by: Spot) -> Result<(), NoMemory>
+    ensures { OnOk result (out.new.items ≡ out.old.items ++ (codes " points='" ++ (spec.place from ++ spec.place by))) }
 {
-    push_attribute(alloc, out, "x1", from.x)?;
-    push_attribute(alloc, out, "y1", from.y)?;
-    push_attribute(alloc, out, "x2", to.x)?;
-    push_attribute(alloc, out, "y2", to.y)?;
-    push(out, "/>\n")
+    push(out, " points='")?;
+    push_place(alloc, out, from)?;
+    push_place(alloc, out, by)
+}
+
+fn push_last(alloc: Global, out: &mut Vec<u8>, to: Spot) -> Result<(), NoMemory>
+    ensures { OnOk result (out.new.items ≡ out.old.items ++ (spec.place to ++ codes "'/>\n")) }
+{
+    push_place(alloc, out, to)?;
+    push(out, "'/>\n")
+}
+
+// A place on a line.
+fn push_place(alloc: Global, out: &mut Vec<u8>, spot: Spot) -> Result<(), NoMemory>
+    ensures { OnOk result (out.new.items ≡ out.old.items ++ spec.place spot) }
+{
+    push_number(alloc, out, spot.x)?;
+    push(out, ",")?;
+    push_number(alloc, out, spot.y)?;
+    push(out, " ")
 }
 
 fn push_point(alloc: Global, out: &mut Vec<u8>, at: Spot) -> Result<(), NoMemory>
@@ -206,5 +201,7 @@ fn class_of(style: Style) -> &'static str
         Style::Refused => "refused",
         Style::Place => "place",
         Style::Number => "number",
+        Style::Beside => "beside",
+        Style::Meaning => "meaning",
     }
 }

@@ -1,4 +1,6 @@
 //! How a seat waits for its turn, and who wakes it. The head of the crate says why no wake-up is lost.
+ghost use Rattle.std.specs.Prelude.{◌≡◌, ◌<◌, ◌+◌};
+
 use crate::chronicle::Chronicle;
 use crate::turn::{NEXT_TICKET, TURN_SERVED, Turn};
 use crossbeam_utils::Backoff;
@@ -61,6 +63,12 @@ impl Sleepers {
     }
 }
 
+// How often a seat may still sleep outside.
+#[derive(Drop)]
+struct Sleeps {
+    left: u32,
+}
+
 impl<V: Chronicle> Turn<V> {
     // Whether each ticket's turn was over at the second load: the turn served, which was loaded first, never passes the next ticket.
     fn is_free(&self) -> bool {
@@ -80,8 +88,12 @@ impl<V: Chronicle> Turn<V> {
         false
     }
 
-    // Sleeps until the seat is woken, if a look after the announcement finds the lock busy.
-    fn sleep_outside<R: Wait>(&self, rt: &R) {
+    // Sleeps until the seat is woken, if a look after the announcement finds the lock busy. It is one of the sleeps that are left.
+    fn sleep_outside<R: Wait>(&self, rt: &R, sleeps: &mut Sleeps)
+        requires { 0 < sleeps.old.left }
+        ensures { sleeps.new.left + 1 ≡ sleeps.old.left }
+    {
+        sleeps.left -= 1;
         let key = self.sleepers.outside.prepare_wait();
         self.sleepers.end_call();
         if self.is_free() {
@@ -95,8 +107,12 @@ impl<V: Chronicle> Turn<V> {
         if self.is_free_soon() {
             return;
         }
-        for _ in 0..MOST_SLEEPS {
-            self.sleep_outside(rt);
+        let mut sleeps = Sleeps { left: MOST_SLEEPS };
+        for _ in rt.forever() {
+            if sleeps.left == 0 {
+                break;
+            }
+            self.sleep_outside(rt, &mut sleeps);
             if self.is_free_soon() {
                 break;
             }

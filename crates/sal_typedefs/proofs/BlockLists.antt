@@ -1,13 +1,31 @@
 -- Typedefs by name, from one statement to the next.
-use Rattle.std.proofs.Common.{◌≡◌, ℕ, suc, ◌+◌, ◌-◌, ◌<◌, ◌≤◌, List, [], ◌∷◌, length, take, get_or, Bool, Option, Some, None, refl, ◌∙◌, sym, ap, inl, inr, arith}
+use Rattle.std.proofs.Common.{◌≡◌, ℕ, suc, ◌+◌, ◌-◌, ◌<◌, ◌≤◌, List, [], ◌∷◌, length, take, get_or, Bool, false, Option, Some, None, is_some, if◌then◌else◌, refl, ◌∙◌, sym, ap, inl, inr, arith}
 use Rattle.std.specs.Prelude.{find, option_and_then}
+use Rattle.std.specs.BTreeMap.{UpdatesBy}
+use Rattle.std.specs.Cmp.Lexicographic.{slice_cmp}
 use Rattle.std.specs.List.{position_from, slice_get}
+use Rattle.std.specs.Ordering.{nat_cmp}
+use Rattle.std.specs.Str.{bytes_eq}
 use Rattle.std.proofs.lemmas.Bool.{cases_Bool}
 use Rattle.std.proofs.lemmas.List.{take_more, length-take}
+use Rattle.std.proofs.lemmas.Map.Text.{btree_map_updates_str}
+use Rattle.std.proofs.lemmas.Slice.Eq.{bytes_eq-Decides}
 use Rattle.sal_module.specs.Keywords.{same}
 use Rattle.sal_types.proofs.Lists.{position_from-last}
-pub use Rattle.sal_module.proofs.Firsts.{first-put}
-use Rattle.sal_typedefs.specs.Blocks.{with_first}
+use Rattle.sal_module.proofs.Firsts.{with_first-miss}
+use Rattle.sal_typedefs.specs.Blocks.{Numbers, get_by_name, with_first}
+
+pub first-put : (old new : Numbers) (name : List ℕ) (k : ℕ) → UpdatesBy (λ x y. slice_cmp nat_cmp x.now y.now) (λ key. slice_cmp nat_cmp name key.now) old new (Some k)
+    → is_some (get_by_name old name) ≡ false → (q : List ℕ) → get_by_name new q ≡ with_first (get_by_name old q) (same name q) k
+first-put old new name k updates unknown q =
+    let here : get_by_name new q ≡ (if bytes_eq name q then Some k else get_by_name old q) = btree_map_updates_str name old new (Some k) updates q in
+    elim (cases_Bool (same name q)) [
+      | inl e ↦
+          let that : name ≡ q = (bytes_eq-Decides name q).0 e in
+          let none : is_some (get_by_name old q) ≡ false = ap (λ n. is_some (get_by_name old n)) (sym that) ∙ unknown in
+          here ∙ rw (e, none) refl
+      | inr e ↦ here ∙ rw e (sym (with_first-miss (get_by_name old q) k))
+    ]
 
 pub position_from-take : {X : Type 0} (p : X → Bool) (xs : List X) (i : ℕ) (d : X) → i < length xs
     → position_from p 0 (take (i + 1) xs) ≡ with_first (position_from p 0 (take i xs)) (p (get_or xs i d)) i

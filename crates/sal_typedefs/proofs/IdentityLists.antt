@@ -2,7 +2,6 @@
 use Rattle.std.proofs.Common.{◌≡◌, ℕ, zero, suc, ◌+◌, ◌-◌, ◌<◌, ◌≤◌, List, [], ◌∷◌, ◌++◌, length, take, drop, get_or, Bool, true, false, Option, Some, None, is_some, option_map, filter, if◌then◌else◌, refl, ◌∙◌, sym, ap, inl, inr, arith, append-nil}
 use Rattle.std.specs.Prelude.{option_and_then}
 use Rattle.std.specs.List.{position_from, slice_get, sum_by}
-use Rattle.std.specs.BTreeMap.{get_by_text}
 use Rattle.std.proofs.lemmas.Bool.{cases_Bool}
 use Rattle.std.proofs.lemmas.List.{take_more, drop_more, get_or_read}
 use Rattle.sal_stmt.specs.declared.stmt.Stmt.{Stmt}
@@ -10,7 +9,7 @@ use Rattle.sal_module.specs.declared.keyword.Keyword.TheVariants as word
 use Rattle.sal_module.specs.Keywords.{same}
 use Rattle.sal_module.specs.Statements.{is_named, argument_of, subs_of}
 use Rattle.sal_typedefs.specs.Scopes.{identity_in, identities_of}
-use Rattle.sal_typedefs.specs.Blocks.{Numbers, with_first}
+use Rattle.sal_typedefs.specs.Blocks.{Numbers, get_by_name, with_first}
 use Rattle.sal_typedefs.specs.Ready.{identities_among, is_identity_of, AreNumbered, AreIdentities}
 use Rattle.sal_types.proofs.Lists.{position_from-last}
 use Rattle.sal_module.proofs.Firsts.{with_first-miss}
@@ -43,7 +42,7 @@ number-last start q xs x =
 
 pub numbered-more : (start : ℕ) (subs : List Stmt) (i : ℕ) (x : Stmt) (old new : Numbers) (next : ℕ) → i < length subs → x ≡ get_or subs i x
     → AreNumbered start (take i subs) old → next ≡ start + length (identities_among (take i subs))
-    → ((q : List ℕ) → get_by_text new q ≡ with_first (get_by_text old q) (is_identity_of q x) next) → AreNumbered start (take (i + 1) subs) new
+    → ((q : List ℕ) → get_by_name new q ≡ with_first (get_by_name old q) (is_identity_of q x) next) → AreNumbered start (take (i + 1) subs) new
 numbered-more start subs i x old new next h is so_far count put q =
     let more : take (i + 1) subs ≡ take i subs ++ x ∷ [] = take_more subs i x h ∙ ap (λ y. take i subs ++ y ∷ []) (sym is) in
     put q ∙ ap (λ found. with_first found (is_identity_of q x) next) (so_far q)
@@ -66,7 +65,7 @@ next-more start subs i x old new h is so_far put =
 -- ---- those of modules
 
 pub numbered-in : (stmts : List Stmt) (i : ℕ) (stmt : Stmt) (next : ℕ) (map : Numbers) → i < length stmts → stmt ≡ get_or stmts i stmt
-    → next ≡ sum_by (λ one. length (identities_of one)) (take i stmts) → AreNumbered next (subs_of stmt) map → (e : Stmt) (q : List ℕ) → get_by_text map q ≡ identity_in stmts q i (get_or stmts i e)
+    → next ≡ sum_by (λ one. length (identities_of one)) (take i stmts) → AreNumbered next (subs_of stmt) map → (e : Stmt) (q : List ℕ) → get_by_name map q ≡ identity_in stmts q i (get_or stmts i e)
 numbered-in stmts i stmt next map h is count are e q =
     let got : stmt ≡ get_or stmts i e = get_or_read stmts i stmt h is e in
     are q ∙ ap (λ n. option_map (λ i. n + i) (position_from (λ one. same (argument_of one) q) 0 (identities_of stmt))) count ∙ ap (identity_in stmts q i) got
@@ -79,9 +78,9 @@ none-past (x ∷ xs) zero e = cc
 none-past (x ∷ xs) (suc k) e = omega (arith, none-past xs k e)
 
 pub number-at : (stmts : List Stmt) (maps : List Numbers) (name : List ℕ) (k : ℕ) (d : Numbers) → AreIdentities stmts maps → k < length maps
-    → get_by_text (get_or maps k d) name ≡ option_and_then (identity_in stmts name k) (slice_get stmts k)
+    → get_by_name (get_or maps k d) name ≡ option_and_then (identity_in stmts name k) (slice_get stmts k)
 number-at stmts maps name k d are h =
-    elim (slice_get stmts k) as (λ f. slice_get stmts k ≡ f → get_by_text (get_or maps k d) name ≡ option_and_then (identity_in stmts name k) f) [
+    elim (slice_get stmts k) as (λ f. slice_get stmts k ≡ f → get_by_name (get_or maps k d) name ≡ option_and_then (identity_in stmts name k) f) [
       | None ↦ λ e. absurd (omega (arith, none-past stmts k e, are.count))
       | Some s ↦ λ e. are.each k d s (omega (arith, are.count)) name ∙ ap (identity_in stmts name k) (sym (got-at stmts k s e))
     ] refl

@@ -4,6 +4,7 @@ pub mod RunLists
 pub mod LayerLists
 pub mod MeaningLists
 pub mod LeastLists
+pub mod OnlyNames
 pub mod EntryLists
 pub mod Listings
 pub mod WalkLists

@@ -1,25 +1,17 @@
 -- Blocks around a statement, from one to the next.
-use Rattle.std.proofs.Common.{◌≡◌, ℕ, zero, suc, ◌+◌, ◌-◌, ◌<◌, ◌≤◌, List, [], ◌∷◌, ◌++◌, length, take, get_or, Bool, true, false, Some, None, is_some, option_map, if◌then◌else◌, refl, ◌∙◌, sym, ap, arith}
+use Rattle.std.proofs.Common.{◌≡◌, ℕ, zero, suc, ◌+◌, ◌-◌, ◌<◌, List, [], ◌∷◌, ◌++◌, take, Bool, true, false, not, Some, None, is_some, option_map, if◌then◌else◌, refl, ◌∙◌, sym, ap, inl, inr, arith}
 use Rattle.std.specs.Prelude.{find, reverse}
-use Rattle.std.specs.Borrow.{Bor}
-use Rattle.std.specs.List.{sum_by}
-use Rattle.std.proofs.lemmas.List.{take_more, length-map, get_or-map, reverse-append}
+use Rattle.std.specs.List.{sum_by, list_any}
+use Rattle.std.proofs.lemmas.Bool.{cases_Bool}
+use Rattle.std.proofs.lemmas.List.{reverse-append}
 use Rattle.sal_stmt.specs.declared.stmt.Stmt.{Stmt}
-use Rattle.sal_module.specs.Statements.{subs_of}
+use Rattle.sal_module.specs.declared.keyword.Keyword.TheVariants as word
+use Rattle.sal_module.specs.Statements.{is_named, subs_of}
 use Rattle.sal_typedefs.specs.Scopes.{Site, is_typedef_of, closest}
 use Rattle.sal_typedefs.specs.Names.{count}
-use Rattle.sal_typedefs.specs.Spots.{stmts, site_in}
+use Rattle.sal_typedefs.specs.Spots.{site_in}
 
 -- ---- the innermost block
-
-pub last-block : (bs : List (Bor Stmt)) (n : ℕ) (b : Bor Stmt) → 0 < n → n ≤ length bs → b ≡ get_or bs (n - 1) b → reverse (take n (stmts bs)) ≡ b.now ∷ reverse (take (n - 1) (stmts bs))
-last-block bs n b some within is =
-    let count : n - 1 + 1 ≡ n = omega arith in
-    let lt : n - 1 < length bs = omega arith in
-    let lt' : n - 1 < length (stmts bs) = omega (arith, length-map bs (λ (s : Bor Stmt). s.now)) in
-    let more : take n (stmts bs) ≡ take (n - 1) (stmts bs) ++ get_or (stmts bs) (n - 1) b.now ∷ [] = ap (λ k. take k (stmts bs)) (sym count) ∙ take_more (stmts bs) (n - 1) b.now lt' in
-    let last : get_or (stmts bs) (n - 1) b.now ≡ b.now = get_or-map (λ (s : Bor Stmt). s.now) bs (n - 1) b b.now lt ∙ ap (λ (s : Bor Stmt). s.now) (sym is) in
-    ap reverse (more ∙ ap (λ s. take (n - 1) (stmts bs) ++ s ∷ []) last) ∙ reverse-append (take (n - 1) (stmts bs)) (b.now ∷ [])
 
 pub found-here : (m : ℕ) (name : List ℕ) (block t : Stmt) (outer : List Stmt) → Some t ≡ find (is_typedef_of name) (subs_of block)
     → closest m name (block ∷ outer) ≡ Some (record { «module» = m; stmt = t; around = block ∷ outer })
@@ -65,12 +57,6 @@ inner-none m name outer inner e = ap (closest m name) (reverse-append outer inne
 
 -- ---- the innermost that passes
 
-pub passes-here : (p : Stmt → Bool) (x : Stmt) (xs : List Stmt) → p x ≡ true → find p (x ∷ xs) ≡ Some x
-passes-here p x xs e = rw e refl
-
-pub passes-later : (p : Stmt → Bool) (x : Stmt) (xs : List Stmt) → p x ≡ false → find p (x ∷ xs) ≡ find p xs
-passes-later p x xs e = rw e refl
-
 find-some : (p : Stmt → Bool) (xs ys : List Stmt) (x : Stmt) → Some x ≡ find p xs → Some x ≡ find p (xs ++ ys)
 find-some p [] ys x e = cc
 find-some p (y ∷ xs) ys x e = elim (p y) as (λ b. Some x ≡ (if b then Some y else find p xs) → Some x ≡ (if b then Some y else find p (xs ++ ys))) [ true ↦ λ h. h | false ↦ λ h. find-some p xs ys x h ] e
@@ -95,3 +81,13 @@ pub count-more : (levels : ℕ) (stmt : Stmt) → 0 < levels → 1 + sum_by (cou
 unfolding count
 count-more zero stmt h = absurd (omega arith)
 count-more (suc levels) stmt h = let less : suc levels - 1 ≡ levels = omega arith in rw less refl
+
+-- ---- blocks without typedefs
+
+pub no-typedef : (name : List ℕ) (subs : List Stmt) → list_any (is_named word.Typedef) subs ≡ false → find (is_typedef_of name) subs ≡ None
+no-typedef name [] e = refl
+no-typedef name (x ∷ xs) e = elim (cases_Bool (is_named word.Typedef x)) [ inl t ↦ let h = rw t at e in cc | inr f ↦ let h = rw f at e in rw f (no-typedef name xs h) ]
+
+pub not-so : (b : Bool) → not b ≡ true → b ≡ false
+not-so true e = cc
+not-so false e = refl

@@ -2,7 +2,7 @@
 use Rattle.std.specs.Prelude.{◌≡◌, ⊤, ℕ, true, false, List, [], ◌∷◌, ◌++◌, Option, Some, None}
 use Rattle.std.specs.List.{flat_map}
 use Rattle.sal_stmt.specs.declared.stmt.Stmt.{Stmt}
-use Rattle.sal_module.specs.Statements.{subs_of}
+use Rattle.sal_module.specs.Statements.{argument_of, subs_of}
 use Rattle.sal_module.specs.declared.fault.Found.{Found}
 use Rattle.sal_module.specs.Faults.{least, better}
 use Rattle.sal_restrict.specs.declared.yang_type.YangType.{YangType, out-YangType, roll-YangType}
@@ -10,8 +10,8 @@ use Rattle.sal_typedefs.specs.declared.judgement.Judgement.{Judgement}
 use Rattle.sal_typedefs.specs.declared.judgement.Basis.{Basis}
 use Rattle.sal_restrict.specs.declared.yang_type.YangType.TheOpen.{YangType-F}
 use Rattle.sal_typedefs.specs.declared.builtin.Builtin.{Builtin}
-use Rattle.sal_typedefs.specs.Builtins.{type_of}
-use Rattle.sal_typedefs.specs.Restrictions.{Base, HasNumbers, HasPositions, with_digits, layer_of, absent_faults, sub_faults, list_faults}
+use Rattle.sal_typedefs.specs.Builtins.{builtin_of, type_of}
+use Rattle.sal_typedefs.specs.Restrictions.{Base, HasNumbers, HasPositions, numbering_of, with_digits, layer_of, absent_faults, sub_faults, list_faults}
 use Rattle.sal_typedefs.specs.Types.{Judged, entries_in, restricted}
 
 -- the least of two faults: of equals the first
@@ -68,3 +68,15 @@ AllNumbers (d ∷ ds) = HasNumbers (out-YangType d.ty) × AllNumbers ds
 abbrev pub AllPositions : List Judgement → Type 0
 AllPositions [] = ⊤
 AllPositions (d ∷ ds) = HasPositions (out-YangType d.ty) d.entries.items × AllPositions ds
+
+-- A statement without substatements that is no built-in type, over one type: that of its typedef. A type without names has no
+-- entries.
+pub record HasType (stmt : Stmt) (d : Judgement) : Type 0 where
+  pub alone : subs_of stmt ≡ []
+  pub other : builtin_of (argument_of stmt) ≡ None
+  pub listed : numbering_of (out-YangType d.ty) ≡ None → d.entries.items ≡ []
+
+abbrev pub IsOnlyName : Stmt → List Judgement → Type 0
+IsOnlyName stmt [] = ⊥
+IsOnlyName stmt (d ∷ []) = HasType stmt d
+IsOnlyName stmt (d ∷ e ∷ ds) = ⊥

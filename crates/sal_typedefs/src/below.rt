@@ -8,7 +8,7 @@ ghost use Rattle.sal_typedefs.specs.Spots.{site_of};
 
 use crate::builtin::builtin_of;
 use crate::name::local;
-use crate::spot::{Spot, typedef_in};
+use crate::spot::{Inner, Spot, typedef_in};
 use crate::typedefs::Typedefs;
 use sal_module::{Keyword, argument_of, first_named, is_named};
 use sal_types::{NoMemory, append};
@@ -56,9 +56,10 @@ fn types_in<'x, 'a>(alloc: Global, spot: &Spot<'x, 'a>) -> Result<Vec<Spot<'x, '
     ensures { IfOk result (λ all. map site_of all.items ≡ spec.types_in (site_of spot.now)) }
 {
     let mut all = Vec::new(alloc);
+    let block = Inner::new(spot.stmt);
     for sub in spot.stmt.subs.items() {
         if is_named(Keyword::Type, sub) {
-            append(&mut all, spot.within(alloc, sub)?)?;
+            append(&mut all, spot.within(alloc, &block, sub)?)?;
         }
     }
     Ok(all)
@@ -72,7 +73,8 @@ fn first_type<'x, 'a>(alloc: Global, spot: &Spot<'x, 'a>) -> Result<Vec<Spot<'x,
     match first_named(Keyword::Type, spot.stmt.subs.items()) {
         None => Ok(all),
         Some(sub) => {
-            append(&mut all, spot.within(alloc, sub)?)?;
+            let block = Inner::new(spot.stmt);
+            append(&mut all, spot.within(alloc, &block, sub)?)?;
             Ok(all)
         }
     }

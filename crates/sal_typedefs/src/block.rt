@@ -2,7 +2,6 @@
 ghost use Rattle.std.specs.Prelude.{◌≡◌, ◌<◌, ℕ, List, IfOk, find};
 ghost use Rattle.std.specs.Option.{option_copied};
 ghost use Rattle.std.specs.List.{slice_get};
-ghost use Rattle.std.specs.BTreeMap.{get_by_text};
 ghost use Rattle.sal_module.specs.Keywords.{same};
 ghost use Rattle.sal_module.specs.Statements.{subs_of};
 ghost use Rattle.sal_typedefs.specs.Scopes.{is_typedef_of};
@@ -15,35 +14,35 @@ use std::alloc::Global;
 use std::collections::BTreeMap;
 use std::marker::Model;
 
-/// The number of each name.
-pub(crate) type Numbers = BTreeMap<String, usize>;
+/// The number of each name. No name is copied.
+pub(crate) type Numbers<'s> = BTreeMap<&'s str, usize>;
 
 /// Sets the number of the name, if it has none.
-pub(crate) fn define(map: &mut Numbers, alloc: Global, name: &str, k: usize) -> Result<(), NoMemory>
-    ensures { IfOk result (λ _. (q : List ℕ) → get_by_text map.new q ≡ spec.with_first (get_by_text map.old q) (same name.now q) k) }
+pub(crate) fn define<'s>(map: &mut Numbers<'s>, name: &'s str, k: usize) -> Result<(), NoMemory>
+    ensures { IfOk result (λ _. (q : List ℕ) → spec.get_by_name map.new q ≡ spec.with_first (spec.get_by_name map.old q) (same name.now q) k) }
 {
     if !map.contains_key(name) {
-        map.insert(String::from_str(alloc, name)?, k)?;
+        map.insert(name, k)?;
     }
     Ok(())
 }
 
-fn define_typedef(map: &mut Numbers, alloc: Global, sub: &Stmt, k: usize) -> Result<(), NoMemory>
-    ensures { IfOk result (λ _. (q : List ℕ) → get_by_text map.new q ≡ spec.with_first (get_by_text map.old q) (is_typedef_of q sub.now) k) }
+fn define_typedef<'s>(map: &mut Numbers<'s>, sub: &'s Stmt, k: usize) -> Result<(), NoMemory>
+    ensures { IfOk result (λ _. (q : List ℕ) → spec.get_by_name map.new q ≡ spec.with_first (spec.get_by_name map.old q) (is_typedef_of q sub.now) k) }
 {
     if is_named(Keyword::Typedef, sub) {
-        define(map, alloc, argument_of(sub), k)?;
+        define(map, argument_of(sub), k)?;
     }
     Ok(())
 }
 
 /// The index of the first typedef of each name.
-fn typedefs_in(alloc: Global, subs: &[Stmt]) -> Result<Numbers, NoMemory>
+fn typedefs_in<'s>(alloc: Global, subs: &'s [Stmt]) -> Result<Numbers<'s>, NoMemory>
     ensures { IfOk result (λ map. spec.AreTypedefs subs.now map) }
 {
     let mut map = BTreeMap::new(alloc);
     for (k, sub) in subs.iter().enumerate() {
-        define_typedef(&mut map, alloc, sub, k)?;
+        define_typedef(&mut map, sub, k)?;
     }
     Ok(map)
 }
@@ -70,7 +69,7 @@ fn stmt_at(subs: &[Stmt], k: usize) -> Option<&Stmt>
 #[derive(Drop)]
 pub struct Block<'a> {
     stmt: &'a Stmt,
-    typedefs: Numbers,
+    typedefs: Numbers<'a>,
 }
 
 impl<'a> Model for Block<'a> {

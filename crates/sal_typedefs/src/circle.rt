@@ -4,13 +4,13 @@ ghost use Rattle.std.specs.List.{list_any};
 ghost use Rattle.std.specs.Option.{option_copied, option_to_list};
 ghost use Rattle.sal_module.specs.declared.keyword.Keyword.TheVariants as word;
 ghost use Rattle.sal_module.specs.Statements.{is_named};
-ghost use Rattle.sal_typedefs.specs.Spots.{stmts, site_of};
+ghost use Rattle.sal_typedefs.specs.Spots.{site_of};
 ghost use Rattle.sal_typedefs.specs.Names as spec;
 ghost use Rattle.sal_typedefs.specs.Walks as walks;
 
 use crate::below::target;
 use crate::block::Block;
-use crate::spot::Spot;
+use crate::spot::{Inner, Spot};
 use crate::typedefs::Typedefs;
 use crate::walk::{Way, next, start};
 use sal_module::{Keyword, is_named};
@@ -32,12 +32,12 @@ fn closest_outer<'a>(list: &[Block<'a>]) -> Option<&'a Stmt>
     None
 }
 
-fn closest_inner<'a>(list: &[&'a Stmt]) -> Option<&'a Stmt>
-    ensures { option_copied result ≡ find (is_named word.Typedef) (reverse (stmts list.now)) }
+fn closest_inner<'a>(list: &[Inner<'a>]) -> Option<&'a Stmt>
+    ensures { option_copied result ≡ find (is_named word.Typedef) (reverse list.now) }
 {
     let mut n = list.len();
     'closest: while n > 0 {
-        let stmt = list[n - 1];
+        let stmt = list[n - 1].stmt();
         if is_named(Keyword::Typedef, stmt) {
             return Some(stmt);
         }

@@ -11,7 +11,7 @@ use crate::entry::{Entry, Numbering};
 use crate::judging::at;
 use crate::listing::{Choices, Listing, Named};
 use crate::numbering::{chosen_entry, own_entry};
-use sal_module::{Cause, Found, better, is_named};
+use sal_module::{Cause, Found, argument_of, better, is_named};
 use sal_stmt::Stmt;
 use sal_types::NoMemory;
 use std::alloc::Global;
@@ -43,11 +43,11 @@ pub(crate) struct Naming {
 
 impl Naming {
     /// Appends a name that the statement defines, with the least fault.
-    fn with_own(
+    fn with_own<'s>(
         self,
         best: Option<Found>,
-        listing: &mut Listing,
-        stmt: &Stmt,
+        listing: &mut Listing<'s>,
+        stmt: &'s Stmt,
     ) -> Result<Option<Found>, NoMemory>
         requires { IsListing listing.old }
         ensures entries { IfOk result (λ _. listing.new.named.entries.items ≡ listing.old.named.entries.items ++ spec.entry_of self.numbering None listing.old.named.entries.items stmt.now ∷ []) }
@@ -55,7 +55,7 @@ impl Naming {
         ensures listing { IfOk result (λ _. IsListing listing.new) }
     {
         let (bad, entry) = own_entry(self.alloc, self.numbering, listing, stmt)?;
-        listing.push(self.alloc, entry)?;
+        listing.push(argument_of(stmt), entry)?;
         Ok(with_fault(best, bad, Cause::BadRestriction, self.number, stmt))
     }
 
@@ -80,12 +80,12 @@ impl Naming {
     }
 
     /// Appends a name that the statement chooses from these, with the least fault.
-    fn with_choice(
+    fn with_choice<'s>(
         self,
         best: Option<Found>,
         from: &Choices,
-        chosen: &mut Named,
-        stmt: &Stmt,
+        chosen: &mut Named<'s>,
+        stmt: &'s Stmt,
     ) -> Result<Option<Found>, NoMemory>
         requires { AreNames chosen.old.entries.items chosen.old.names }
         ensures entries { IfOk result (λ _. chosen.new.entries.items ≡ chosen.old.entries.items ++ spec.entry_of self.numbering (Some from.now) chosen.old.entries.items stmt.now ∷ []) }
@@ -93,7 +93,7 @@ impl Naming {
         ensures names { IfOk result (λ _. AreNames chosen.new.entries.items chosen.new.names) }
     {
         let (bad, entry) = chosen_entry(self.alloc, self.numbering, from, chosen, stmt)?;
-        chosen.push(self.alloc, entry)?;
+        chosen.push(argument_of(stmt), entry)?;
         Ok(with_fault(best, bad, Cause::BadRestriction, self.number, stmt))
     }
 

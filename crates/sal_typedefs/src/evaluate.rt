@@ -11,7 +11,7 @@ ghost use Rattle.sal_typedefs.specs.Runs as spec;
 use crate::block::Block;
 use crate::judgement::Judgement;
 use crate::pattern::Look;
-use crate::site_judge::judge_one;
+use crate::site_judge::judge_next;
 use crate::spot::Spot;
 use crate::typedefs::Typedefs;
 use crate::walk::{Gone, Way, next, start};
@@ -55,7 +55,7 @@ fn judge_all(
     'nodes: while n > 0 {
         let node = &nodes[n - 1];
         let below = take_last(alloc, &mut done, node.below)?;
-        let judgement = judge_one(alloc, look, typedefs, &node.spot, below.as_slice())?;
+        let judgement = judge_next(alloc, look, typedefs, &node.spot, below)?;
         append(&mut done, judgement)?;
         n -= 1;
     }

@@ -23,7 +23,7 @@ use sal_types::{Duplicate, NoMemory, Str, append};
 use std::alloc::Global;
 
 /// How the names of a type get their numbers, if it has names.
-fn numbering_of(ty: &YangType) -> Option<Numbering>
+pub(crate) fn numbering_of(ty: &YangType) -> Option<Numbering>
     ensures { result ≡ restrictions.numbering_of (out-YangType ty.now) }
 {
     match ty {

@@ -30,9 +30,10 @@
 //! Cost: `is_malformed` compiles the pattern, as `regex` does. `Typedefs::new` and `Block::new` are linear in the statements, with
 //! the logarithm of the names for each, and `path_names` in the text. The calls for a statement are linear in the statements
 //! that the type depends on, each as often as it is used, with the logarithm of a block's typedefs for each name, and of the
-//! names that a statement lists for each of these. If the names have a fault, these calls may take exponential time: for a
-//! union that names one typedef twice in a cycle, only the number of statements bounds the search. So call `name_fault_at`
-//! for all types of the modules before any of the others.
+//! names that a statement lists for each of these. A statement that is only the name of a typedef takes over the result of the
+//! typedef's type, and copies nothing. If the names have a fault, these calls may take exponential time: for a union that names
+//! one typedef twice in a cycle, only the number of statements bounds the search. So call `name_fault_at` for all types of the
+//! modules before any of the others.
 #![tactic(auto)]
 
 mod basis;

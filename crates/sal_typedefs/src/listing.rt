@@ -14,12 +14,12 @@ use std::collections::{BTreeMap, BTreeSet};
 use std::marker::Model;
 
 /// The index of the first of these entries with each name.
-fn names_of(alloc: Global, entries: &[Entry]) -> Result<Numbers, NoMemory>
+fn names_of<'e>(alloc: Global, entries: &'e [Entry]) -> Result<Numbers<'e>, NoMemory>
     ensures { IfOk result (λ names. spec.AreNames entries.now names) }
 {
     let mut names = BTreeMap::new(alloc);
     for (k, entry) in entries.iter().enumerate() {
-        define(&mut names, alloc, entry.name.as_str(), k)?;
+        define(&mut names, entry.name.as_str(), k)?;
     }
     Ok(names)
 }
@@ -34,7 +34,7 @@ fn entry_at(entries: &[Entry], k: usize) -> Option<&Entry>
 #[derive(Drop)]
 pub(crate) struct Choices<'e> {
     entries: &'e [Entry],
-    names: Numbers,
+    names: Numbers<'e>,
 }
 
 impl<'e> Model for Choices<'e> {
@@ -69,15 +69,15 @@ impl<'e> Choices<'e> {
     }
 }
 
-/// Named entries, and the index of the first one with each name.
+/// Entries of statements, and the index of the first one with each name.
 #[derive(Drop)]
-pub(crate) struct Named {
+pub(crate) struct Named<'s> {
     pub(crate) entries: Vec<Entry>,
-    pub(crate) names: Numbers,
+    pub(crate) names: Numbers<'s>,
 }
 
-impl Named {
-    pub(crate) fn new(alloc: Global) -> Named
+impl<'s> Named<'s> {
+    pub(crate) fn new(alloc: Global) -> Named<'s>
         ensures none { result.entries.items ≡ [] }
         ensures names { spec.AreNames result.entries.items result.names }
     {
@@ -95,18 +95,14 @@ impl Named {
         self.names.contains_key(name)
     }
 
-    /// Appends an entry.
-    pub(crate) fn push(&mut self, alloc: Global, entry: Entry) -> Result<(), NoMemory>
-        requires { spec.AreNames self.old.entries.items self.old.names }
+    /// Appends an entry with this name.
+    pub(crate) fn push(&mut self, name: &'s str, entry: Entry) -> Result<(), NoMemory>
+        requires names { spec.AreNames self.old.entries.items self.old.names }
+        requires named { entry.name ≡ name.now }
         ensures entries { IfOk result (λ _. self.new.entries.items ≡ self.old.entries.items ++ entry ∷ []) }
         ensures names { IfOk result (λ _. spec.AreNames self.new.entries.items self.new.names) }
     {
-        define(
-            &mut self.names,
-            alloc,
-            entry.name.as_str(),
-            self.entries.len(),
-        )?;
+        define(&mut self.names, name, self.entries.len())?;
         append(&mut self.entries, entry)?;
         Ok(())
     }
@@ -114,14 +110,14 @@ impl Named {
 
 /// Entries that a statement defines, with look-ups of their names and numbers, and the next number.
 #[derive(Drop)]
-pub(crate) struct Listing {
-    pub(crate) named: Named,
+pub(crate) struct Listing<'s> {
+    pub(crate) named: Named<'s>,
     pub(crate) numbers: BTreeSet<i128>,
     pub(crate) next: i128,
 }
 
-impl Listing {
-    pub(crate) fn new(alloc: Global) -> Listing
+impl<'s> Listing<'s> {
+    pub(crate) fn new(alloc: Global) -> Listing<'s>
         ensures none { result.named.entries.items ≡ [] }
         ensures listing { spec.IsListing result }
     {
@@ -140,16 +136,17 @@ impl Listing {
         self.numbers.contains(&number)
     }
 
-    /// Appends an entry.
-    pub(crate) fn push(&mut self, alloc: Global, entry: Entry) -> Result<(), NoMemory>
+    /// Appends an entry with this name.
+    pub(crate) fn push(&mut self, name: &'s str, entry: Entry) -> Result<(), NoMemory>
         requires listing { spec.IsListing self.old }
+        requires named { entry.name ≡ name.now }
         requires small { entry.number ≤ℤ entries_spec.bound (length self.old.named.entries.items) }
         ensures entries { IfOk result (λ _. self.new.named.entries.items ≡ self.old.named.entries.items ++ entry ∷ []) }
         ensures listing { IfOk result (λ _. spec.IsListing self.new) }
     {
         let next = next_after(self.named.entries.as_slice(), self.next, &entry);
         self.numbers.insert(entry.number)?;
-        self.named.push(alloc, entry)?;
+        self.named.push(name, entry)?;
         self.next = next;
         Ok(())
     }

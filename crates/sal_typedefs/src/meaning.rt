@@ -1,6 +1,5 @@
 //! Types with names: enumerations, bits, identityrefs and unions (RFC 7950 sections 9.6, 9.7, 9.10 and 9.12).
 ghost use Rattle.std.specs.Prelude.{◌≡◌, ◌++◌, ◌∷◌, [], ℕ, ◌<◌, ◌≤◌, All, List, IfOk, map, filter, length, unwrap_or, unsigned_abs, slice_index};
-ghost use Rattle.std.specs.BTreeMap.{get_by_text};
 ghost use Rattle.std.specs.List.{flat_map, enumerate_from, position_from};
 ghost use Rattle.std.specs.Option.{option_to_list};
 ghost use Rattle.sal_restrict.specs.declared.yang_type.YangType.{YangType as Meant};
@@ -8,6 +7,7 @@ ghost use Rattle.sal_restrict.specs.declared.yang_type.YangType.TheViews.{out-Ya
 ghost use Rattle.sal_module.specs.declared.keyword.Keyword.TheVariants as word;
 ghost use Rattle.sal_module.specs.Keywords.{same};
 ghost use Rattle.sal_module.specs.Statements.{all_named, argument_of, is_named};
+ghost use Rattle.sal_typedefs.specs.Blocks.{get_by_name};
 ghost use Rattle.sal_typedefs.specs.declared.entry.Entry.{Entry as Named};
 ghost use Rattle.sal_typedefs.specs.Scopes.{identity_of};
 ghost use Rattle.sal_typedefs.specs.Restrictions.{IsPosition};
@@ -54,12 +54,12 @@ pub(crate) fn own_places(alloc: Global, entries: &[Entry]) -> Result<Seq<u32>, N
 }
 
 /// The index of the first of each name.
-fn first_places(alloc: Global, names: &[Str]) -> Result<Numbers, NoMemory>
-    ensures { IfOk result (λ map. (q : List ℕ) → get_by_text map q ≡ position_from (same q) 0 names.now) }
+fn first_places<'s>(alloc: Global, names: &'s [Str]) -> Result<Numbers<'s>, NoMemory>
+    ensures { IfOk result (λ map. (q : List ℕ) → get_by_name map q ≡ position_from (same q) 0 names.now) }
 {
     let mut map = BTreeMap::new(alloc);
     for (i, name) in names.iter().enumerate() {
-        define(&mut map, alloc, name.as_str(), i)?;
+        define(&mut map, name.as_str(), i)?;
     }
     Ok(map)
 }
@@ -75,7 +75,7 @@ fn place_at(places: &[u32], i: usize) -> u32
 
 /// The original index of a name, whose index is in the map.
 fn place_of(firsts: &Numbers, places: &[u32], name: &str) -> u32
-    ensures { result ≡ slice_index places.now (unwrap_or (get_by_text firsts.now name.now) 0) }
+    ensures { result ≡ slice_index places.now (unwrap_or (get_by_name firsts.now name.now) 0) }
 {
     match firsts.get(name) {
         None => place_at(places, 0),
@@ -103,7 +103,7 @@ fn places_by(
     places: &[u32],
     entries: &[Entry],
 ) -> Result<Seq<u32>, NoMemory>
-    ensures { IfOk result (λ it. it ≡ map (λ (e : Named). slice_index places.now (unwrap_or (get_by_text firsts.now e.name) 0)) entries.now) }
+    ensures { IfOk result (λ it. it ≡ map (λ (e : Named). slice_index places.now (unwrap_or (get_by_name firsts.now e.name) 0)) entries.now) }
 {
     let mut list = Vec::with_capacity(alloc, entries.len())?;
     for entry in entries {

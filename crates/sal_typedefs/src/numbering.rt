@@ -3,6 +3,7 @@ ghost use Rattle.std.specs.Prelude.{◌≡◌, ◌≢◌, ◌≤◌, ◌≤ℤ�
 ghost use Rattle.sal_stmt.specs.Words.{first};
 ghost use Rattle.std.specs.Option.{option_copied};
 ghost use Rattle.sal_module.specs.Arguments.{decimal};
+ghost use Rattle.sal_module.specs.Statements.{argument_of as argument};
 ghost use Rattle.sal_typedefs.specs.Listings.{AreNames, IsListing};
 ghost use Rattle.sal_typedefs.specs.Entries as spec;
 
@@ -215,6 +216,7 @@ pub(crate) fn chosen_entry(
     requires { AreNames before.now.entries.items before.now.names }
     ensures bad { IfOk result (λ p. p.0 ≡ spec.is_bad_choice n from.now before.now.entries.items stmt.now) }
     ensures entry { IfOk result (λ p. p.1 ≡ spec.entry_of n (Some from.now) before.now.entries.items stmt.now) }
+    ensures name { IfOk result (λ p. p.1.name ≡ argument stmt.now) }
 {
     let name = argument_of(stmt);
     let found = from.named(name);

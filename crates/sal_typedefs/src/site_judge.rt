@@ -1,7 +1,9 @@
 //! The result of a type statement, after those that it depends on.
-ghost use Rattle.std.specs.Prelude.{◌≡◌, List, None, map, IfOk};
+ghost use Rattle.std.specs.Prelude.{◌≡◌, [], List, None, true, map, IfOk};
 ghost use Rattle.sal_restrict.specs.declared.yang_type.YangType.TheViews.{out-YangType};
 ghost use Rattle.sal_module.specs.Faults.{least};
+ghost use Rattle.sal_module.specs.Statements.{argument_of as argument, subs_of};
+ghost use Rattle.sal_typedefs.specs.Builtins.{builtin_of as builtin};
 ghost use Rattle.sal_typedefs.specs.declared.judgement.Judgement.{Judgement as Kept};
 ghost use Rattle.sal_typedefs.specs.Restrictions as restrictions;
 ghost use Rattle.sal_typedefs.specs.Restrictions.{HasNumbers, HasPositions};
@@ -15,14 +17,40 @@ use crate::builtin::builtin_of;
 use crate::judge::faulty;
 use crate::judgement::{Basis, Judgement};
 use crate::judging::with_patterns;
-use crate::layer::Restriction;
+use crate::layer::{Restriction, numbering_of};
 use crate::merging::fault_below;
 use crate::pattern::Look;
 use crate::spot::Spot;
 use crate::typedefs::Typedefs;
 use sal_module::{Found, argument_of};
+use sal_stmt::Stmt;
 use sal_types::NoMemory;
 use std::alloc::Global;
+
+/// Whether there are entries for each name of the type.
+fn is_listed(judgement: &Judgement) -> bool
+    ensures { result ≡ true → restrictions.numbering_of (out-YangType judgement.now.ty) ≡ None → judgement.now.entries.items ≡ [] }
+{
+    numbering_of(&judgement.ty).is_some() || judgement.entries.is_empty()
+}
+
+/// Whether a statement has no substatements and is no built-in type.
+fn is_alone(stmt: &Stmt) -> bool
+    ensures alone { result ≡ true → subs_of stmt.now ≡ [] }
+    ensures other { result ≡ true → builtin (argument stmt.now) ≡ None }
+{
+    stmt.subs.items().is_empty() && builtin_of(argument_of(stmt)).is_none()
+}
+
+/// Whether a statement is only the name of a typedef, and the only result below is that of the typedef's type.
+fn is_only_name(stmt: &Stmt, below: &[Judgement]) -> bool
+    ensures { result ≡ true → spec.IsOnlyName stmt.now below.now }
+{
+    if below.len() != 1 || !is_alone(stmt) {
+        return false;
+    }
+    is_listed(&below[0])
+}
 
 /// The result of a statement that restricts this type, with these results of the statements below.
 fn judge_over(
@@ -74,4 +102,28 @@ pub(crate) fn judge_one(
     let basis = basis_of(alloc, builtin_of(argument_of(spot.stmt)), below)?;
     let judgement = judge_over(best, alloc, typedefs, spot, &basis, below)?;
     Ok(judgement)
+}
+
+/// The result of a statement, with these results of the statements below. If it is only the name of a typedef, that of the
+/// typedef's type is moved.
+pub(crate) fn judge_next(
+    alloc: Global,
+    look: Look,
+    typedefs: &Typedefs,
+    spot: &Spot,
+    below: Vec<Judgement>,
+) -> Result<Judgement, NoMemory>
+    requires numbers { spec.AllNumbers below.items }
+    requires positions { spec.AllPositions below.items }
+    ensures { IfOk result (λ d. (judged : List Judged) → spec.AreJudged below.items judged
+        → spec.IsJudged d (types_spec.judged typedefs.now (site_of spot.now) (types_spec.base_of (site_of spot.now) judged) judged)) }
+{
+    if !is_only_name(spot.stmt, below.as_slice()) {
+        return judge_one(alloc, look, typedefs, spot, below.as_slice());
+    }
+    let mut below = below;
+    match below.pop() {
+        None => unreachable!(),
+        Some(judgement) => Ok(judgement),
+    }
 }

@@ -1,12 +1,77 @@
 //! Type statements with the blocks around them.
-ghost use Rattle.std.specs.Prelude.{◌≡◌, ◌≤◌, IfOk, IfSome, option_map, reverse, length};
+ghost use Rattle.std.specs.Prelude.{◌≡◌, ◌≤◌, IfOk, IfSome, option_map, reverse, length, find};
+ghost use Rattle.std.specs.Option.{option_copied};
+ghost use Rattle.sal_module.specs.Statements.{subs_of};
 ghost use Rattle.sal_typedefs.specs.Scopes as scopes;
+ghost use Rattle.sal_typedefs.specs.Scopes.{is_typedef_of};
 ghost use Rattle.sal_typedefs.specs.Spots as spec;
 
 use crate::block::{Block, typedef_among};
+use sal_module::{Keyword, has_named};
 use sal_stmt::Stmt;
 use sal_types::{NoMemory, append};
 use std::alloc::Global;
+use std::marker::Model;
+
+/// A block inside those of the caller, and whether it has no typedef. A contract sees the statement.
+#[derive(Drop)]
+pub(crate) struct Inner<'a> {
+    stmt: &'a Stmt,
+    bare: bool,
+}
+
+impl<'a> Model for Inner<'a> {
+    ghost use Rattle.std.specs.Prelude.{◌≡◌, true, None, List, ℕ, find};
+    ghost use Rattle.sal_stmt.specs.declared.stmt.Stmt.{Stmt as Statement};
+    ghost use Rattle.sal_stmt.specs.contracts.stmt.Stmt as e;
+    ghost use Rattle.sal_module.specs.Statements.{subs_of};
+    ghost use Rattle.sal_typedefs.specs.Scopes.{is_typedef_of};
+
+    ghost Value = { Statement };
+
+    ghost coded = { e.the_row.coded };
+
+    ghost view = { λ a. a.stmt.now };
+
+    ghost invariant = { λ a. a.bare ≡ true → (name : List ℕ) → find (is_typedef_of name) (subs_of a.stmt.now) ≡ None };
+}
+
+impl<'a> Inner<'a> {
+    /// The block of a statement. It takes time linear in the statements there.
+    pub(crate) fn new(stmt: &'a Stmt) -> Inner<'a>
+        ensures { result ≡ stmt.now }
+    {
+        Inner {
+            stmt,
+            bare: !has_named(Keyword::Typedef, stmt.subs.items()),
+        }
+    }
+
+    fn copy(&self) -> Inner<'a>
+        ensures { result ≡ self.now }
+    {
+        Inner {
+            stmt: self.stmt,
+            bare: self.bare,
+        }
+    }
+
+    pub(crate) fn stmt(&self) -> &'a Stmt
+        ensures { result.now ≡ self.now }
+    {
+        self.stmt
+    }
+
+    /// The first typedef of this name in the block.
+    fn typedef(&self, name: &str) -> Option<&'a Stmt>
+        ensures { option_copied result ≡ find (is_typedef_of name.now) (subs_of self.now) }
+    {
+        if self.bare {
+            return None;
+        }
+        typedef_among(self.stmt.subs.items(), name)
+    }
+}
 
 /// A statement and the blocks around it, from the outermost inwards: first those of the caller, then the inner ones.
 #[derive(Drop)]
@@ -14,15 +79,15 @@ pub(crate) struct Spot<'x, 'a> {
     pub(crate) module: u32,
     pub(crate) stmt: &'a Stmt,
     pub(crate) outer: &'x [Block<'a>],
-    pub(crate) inner: Vec<&'a Stmt>,
+    pub(crate) inner: Vec<Inner<'a>>,
 }
 
-fn copies<'a>(alloc: Global, list: &[&'a Stmt]) -> Result<Vec<&'a Stmt>, NoMemory>
-    ensures { IfOk result (λ copy. spec.stmts copy.items ≡ spec.stmts list.now) }
+fn copies<'a>(alloc: Global, list: &[Inner<'a>]) -> Result<Vec<Inner<'a>>, NoMemory>
+    ensures { IfOk result (λ copy. copy.items ≡ list.now) }
 {
     let mut copy = Vec::with_capacity(alloc, list.len())?;
-    for stmt in list {
-        append(&mut copy, *stmt)?;
+    for block in list {
+        append(&mut copy, block.copy())?;
     }
     Ok(copy)
 }
@@ -42,14 +107,14 @@ fn closest_outer<'a>(number: u32, blocks: &[Block<'a>], name: &str) -> Option<(u
     None
 }
 
-/// The same for blocks without an index.
-fn closest_inner<'a>(number: u32, list: &[&'a Stmt], name: &str) -> Option<(usize, &'a Stmt)>
-    ensures value { option_map (spec.seen_in number (spec.stmts list.now)) result ≡ scopes.closest number name.now (reverse (spec.stmts list.now)) }
+/// The same for inner blocks.
+fn closest_inner<'a>(number: u32, list: &[Inner<'a>], name: &str) -> Option<(usize, &'a Stmt)>
+    ensures value { option_map (spec.seen_in number list.now) result ≡ scopes.closest number name.now (reverse list.now) }
     ensures within { IfSome result (λ found. found.0 ≤ length list.now) }
 {
     let mut n = list.len();
     'closest: while n > 0 {
-        if let Some(stmt) = typedef_among(list[n - 1].subs.items(), name) {
+        if let Some(stmt) = list[n - 1].typedef(name) {
             return Some((n, stmt));
         }
         n -= 1;
@@ -140,12 +205,18 @@ impl<'x, 'a> Spot<'x, 'a> {
         })
     }
 
-    /// A statement in the block of this one.
-    pub(crate) fn within(&self, alloc: Global, sub: &'a Stmt) -> Result<Spot<'x, 'a>, NoMemory>
+    /// A statement in the block of this one, which is given.
+    pub(crate) fn within(
+        &self,
+        alloc: Global,
+        block: &Inner<'a>,
+        sub: &'a Stmt,
+    ) -> Result<Spot<'x, 'a>, NoMemory>
+        requires { block.now ≡ self.now.stmt.now }
         ensures { IfOk result (λ spot. spec.site_of spot ≡ scopes.within (spec.site_of self.now) sub.now) }
     {
         let mut inner = copies(alloc, self.inner.as_slice())?;
-        append(&mut inner, self.stmt)?;
+        append(&mut inner, block.copy())?;
         Ok(Spot {
             module: self.module,
             stmt: sub,

@@ -24,7 +24,7 @@ use std::marker::Model;
 pub struct Typedefs<'a> {
     modules: &'a Modules,
     tops: Vec<Block<'a>>,
-    identities: Vec<Numbers>,
+    identities: Vec<Numbers<'a>>,
     steps: usize,
 }
 

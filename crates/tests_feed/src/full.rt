@@ -1,12 +1,14 @@
 //! A full feed returns a notification, and `finish` returns the remaining ones.
 ghost use Rattle.std.specs.Prelude.{◌≡◌};
 
-use sal_feed::{Feed, OfferSeat, TakeSeat};
+use sal_feed::{Feed, NoInvariant, OfferSeat, TakeSeat};
 use sal_note::{Note, NoteList};
 use sal_rows::Rows;
 use std::alloc::Global;
 use std::sync::Wait;
 use std::test::Fail;
+
+type Line = Feed<NoInvariant>;
 
 fn note_of(alloc: Global, number: u32) -> Note {
     Note {
@@ -16,7 +18,7 @@ fn note_of(alloc: Global, number: u32) -> Note {
 }
 
 // The notification that was returned, if any.
-fn offered<R: Wait>(rt: &R, feed: &Feed, seat: &mut OfferSeat, note: Note) -> Option<u32>
+fn offered<R: Wait>(rt: &R, feed: &Line, seat: &mut OfferSeat, note: Note) -> Option<u32>
     requires { seat.old.feed ≡ feed.now.id }
     ensures { seat.new.feed ≡ seat.old.feed }
 {
@@ -27,7 +29,7 @@ fn offered<R: Wait>(rt: &R, feed: &Feed, seat: &mut OfferSeat, note: Note) -> Op
 }
 
 // The notification that was taken, if any.
-fn taken<R: Wait>(rt: &R, feed: &Feed, seat: &mut TakeSeat) -> Option<u32>
+fn taken<R: Wait>(rt: &R, feed: &Line, seat: &mut TakeSeat) -> Option<u32>
     requires { seat.old.feed ≡ feed.now.id }
     ensures { seat.new.feed ≡ seat.old.feed }
 {
@@ -47,7 +49,7 @@ fn are_just(list: &NoteList, first: u32, second: u32) -> bool {
 fn is_filled<R: Wait>(
     rt: &R,
     alloc: Global,
-    feed: &Feed,
+    feed: &Line,
     offers: &mut OfferSeat,
     takes: &mut TakeSeat,
 ) -> bool
@@ -67,7 +69,7 @@ fn is_filled<R: Wait>(
 
 #[test]
 fn three_notes_at_capacity_two(rt: HostRuntime) -> Result<(), Fail> {
-    let Ok((feed, mut offers, mut takes)) = Feed::open(&rt, rt.alloc(), 2) else {
+    let Ok((feed, mut offers, mut takes)) = Line::open(&rt, rt.alloc(), 2) else {
         return Err("no memory".into());
     };
     if !is_filled(&rt, rt.alloc(), &feed, &mut offers, &mut takes) {

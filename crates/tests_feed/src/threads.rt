@@ -1,7 +1,7 @@
 //! Two threads: one offers a thousand notifications, the other takes them.
 ghost use Rattle.std.specs.Prelude.{◌≡◌};
 
-use sal_feed::{Feed, OfferSeat, TakeSeat};
+use sal_feed::{Feed, NoInvariant, OfferSeat, TakeSeat};
 use sal_note::Note;
 use sal_rows::Rows;
 use std::alloc::Global;
@@ -10,13 +10,15 @@ use std::test::Fail;
 use std::thread;
 use std::thread::Threads;
 
+type Line = Feed<NoInvariant>;
+
 const NOTES: u32 = 1000;
 
 // Far fewer than the notifications, so that both threads wait for each other again and again.
 const CAPACITY: usize = 8;
 
 // Offers a notification until there is room for it.
-fn offer<R: Wait>(rt: &R, feed: &Feed, seat: &mut OfferSeat, note: Note)
+fn offer<R: Wait>(rt: &R, feed: &Line, seat: &mut OfferSeat, note: Note)
     requires { seat.old.feed ≡ feed.now.id }
     ensures { seat.new.feed ≡ seat.old.feed }
 {
@@ -31,7 +33,7 @@ fn offer<R: Wait>(rt: &R, feed: &Feed, seat: &mut OfferSeat, note: Note)
 }
 
 // Takes a notification once there is one.
-fn take<R: Wait>(rt: &R, feed: &Feed, seat: &mut TakeSeat) -> u32
+fn take<R: Wait>(rt: &R, feed: &Line, seat: &mut TakeSeat) -> u32
     requires { seat.old.feed ≡ feed.now.id }
     ensures { seat.new.feed ≡ seat.old.feed }
 {
@@ -44,7 +46,7 @@ fn take<R: Wait>(rt: &R, feed: &Feed, seat: &mut TakeSeat) -> u32
     unreachable!()
 }
 
-fn offer_all<R: Wait>(rt: &R, alloc: Global, feed: &Feed, mut seat: OfferSeat) -> OfferSeat
+fn offer_all<R: Wait>(rt: &R, alloc: Global, feed: &Line, mut seat: OfferSeat) -> OfferSeat
     requires { seat.feed ≡ feed.now.id }
     ensures { result.feed ≡ feed.now.id }
 {
@@ -56,7 +58,7 @@ fn offer_all<R: Wait>(rt: &R, alloc: Global, feed: &Feed, mut seat: OfferSeat) -
 }
 
 // The seat, and how many notifications came in their order.
-fn take_all<R: Wait>(rt: &R, feed: &Feed, mut seat: TakeSeat) -> (TakeSeat, u32)
+fn take_all<R: Wait>(rt: &R, feed: &Line, mut seat: TakeSeat) -> (TakeSeat, u32)
     requires { seat.feed ≡ feed.now.id }
     ensures { result.0.feed ≡ feed.now.id }
 {
@@ -72,7 +74,7 @@ fn take_all<R: Wait>(rt: &R, feed: &Feed, mut seat: TakeSeat) -> (TakeSeat, u32)
 fn both<R: Threads + Wait + Sync>(
     rt: &R,
     alloc: Global,
-    feed: &Feed,
+    feed: &Line,
     offers: OfferSeat,
     takes: TakeSeat,
 ) -> (OfferSeat, TakeSeat, u32)
@@ -97,7 +99,7 @@ fn both<R: Threads + Wait + Sync>(
 
 #[test]
 fn a_thousand_notes_from_thread_to_thread(rt: HostRuntime) -> Result<(), Fail> {
-    let Ok((feed, offers, takes)) = Feed::open(&rt, rt.alloc(), CAPACITY) else {
+    let Ok((feed, offers, takes)) = Line::open(&rt, rt.alloc(), CAPACITY) else {
         return Err("no memory".into());
     };
     let (offers, takes, good) = both(&rt, rt.alloc(), &feed, offers, takes);

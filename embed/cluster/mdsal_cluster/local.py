@@ -25,6 +25,7 @@ TIMES = ("--heartbeat-interval", "50", "--election-timeout", "500")
 COMPACTION = ("--auto-compaction-mode", "revision", "--auto-compaction-retention", "2000")
 LIBC, DEATH_SIGNAL = ctypes.CDLL(None), 1  # prctl(PR_SET_PDEATHSIG)
 NODE = [sys.executable, "-B", "-m", "mdsal_cluster.node"]
+NAMES = "abc"  # of the nodes
 
 
 def free_ports(count: int) -> list[int]:
@@ -65,14 +66,25 @@ def end(process: subprocess.Popen[bytes]) -> None:
     process.wait()
 
 
+class Place:
+    """Where members and nodes run: here, on loopback. A test has others."""
+
+    def addresses(self, count: int) -> list[str]:
+        """Returns addresses HOST:PORT at which so many processes may listen, the process of each place in turn."""
+        return [f"127.0.0.1:{it}" for it in free_ports(count)]
+
+    def words(self, i: int) -> list[str]:
+        """Returns the words before the command of the process of this place."""
+        return []
+
+
 class Members:
     """Members of etcd, each with its data in a folder of its own."""
 
-    def __init__(self, folder: str, count: int = 3):
-        self.folder, self.running = folder, {}
-        ports = free_ports(2 * count)
-        self.endpoints = [f"http://127.0.0.1:{it}" for it in ports[:count]]
-        self.peers = [f"http://127.0.0.1:{it}" for it in ports[count:]]
+    def __init__(self, folder: str, count: int = 3, place: Place = Place()):
+        self.folder, self.place, self.running = folder, place, {}
+        addresses = [f"http://{it}" for it in place.addresses(2 * count)]
+        self.endpoints, self.peers = addresses[:count], addresses[count:]
         shutil.rmtree(folder, ignore_errors=True)
         os.makedirs(folder)
         for i in range(count):
@@ -82,7 +94,7 @@ class Members:
     def start(self, i: int) -> None:
         client, peer = self.endpoints[i], self.peers[i]
         cluster = ",".join(f"m{k}={it}" for k, it in enumerate(self.peers))
-        words = ["etcd", "--name", f"m{i}", "--data-dir", f"{self.folder}/m{i}", "--logger", "zap", "--log-level", "error", *TIMES, *COMPACTION]
+        words = [*self.place.words(i), "etcd", "--name", f"m{i}", "--data-dir", f"{self.folder}/m{i}", "--logger", "zap", "--log-level", "error", *TIMES, *COMPACTION]
         words += ["--listen-client-urls", client, "--advertise-client-urls", client]
         words += ["--listen-peer-urls", peer, "--initial-advertise-peer-urls", peer]
         words += ["--initial-cluster", cluster, "--initial-cluster-state", "new", "--initial-cluster-token", os.path.basename(self.folder)]
@@ -114,16 +126,16 @@ class Members:
 class Nodes:
     """Nodes over the members. `programs` has the command of each node without its words, and `endpoints` those of etcd; `more` are further words."""
 
-    def __init__(self, folder: str, script: str, endpoints: Sequence[str], names: str = "abc"):
-        self.folder, self.script, self.endpoints = folder, script, {name: endpoints for name in names}
-        self.addresses = {name: f"127.0.0.1:{port}" for name, port in zip(names, free_ports(len(names)))}
-        self.programs, self.more = {name: NODE for name in names}, ["--lease", "1"]
+    def __init__(self, folder: str, script: str, endpoints: Sequence[str], place: Place = Place()):
+        self.folder, self.script, self.endpoints, self.place = folder, script, {name: endpoints for name in NAMES}, place
+        self.addresses = dict(zip(NAMES, place.addresses(len(NAMES))))
+        self.programs, self.more = {name: NODE for name in NAMES}, ["--lease", "1"]
         self.running: dict[str, subprocess.Popen[bytes]] = {}
         os.makedirs(folder, exist_ok=True)
 
     def start(self, *names: str) -> None:
         for name in names or self.addresses:
-            words = [*self.programs[name], name, self.addresses[name], self.script, ",".join(self.endpoints[name]), *self.more]
+            words = [*self.place.words(NAMES.index(name)), *self.programs[name], name, self.addresses[name], self.script, ",".join(self.endpoints[name]), *self.more]
             self.running[name] = started(words, f"{self.folder}/{name}.log")
 
     def kill(self, name: str) -> None:

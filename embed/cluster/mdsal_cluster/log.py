@@ -146,8 +146,9 @@ class Log:
             raise Fenced(f"append up to {tail.number} in term {term}")
 
     def confirm(self, term: int) -> None:
-        """Returns if the term is still mine: what was read before this call may be answered. Else it raises `Fenced`."""
-        if not until_answered(lambda: self.etcd.transaction([was_modified_at(self.leader, term)], [])).held:
+        """Returns if the term is still mine: what was read before this call may be answered. Else it raises `Fenced`. The transaction reads a key, so
+        that it is linearizable: one that only compares is answered by a member from what it has, also where it is cut off from the others."""
+        if not until_answered(lambda: self.etcd.transaction([was_modified_at(self.leader, term)], [get(self.leader)])).held:
             raise Fenced(f"a read in term {term}")
 
     @staticmethod

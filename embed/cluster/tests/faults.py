@@ -22,7 +22,7 @@ from collections.abc import Callable
 from auditor import Auditor
 from checker import FOUND, SHOWN
 from mdsal_cluster.client import NoLeader, look_at
-from mdsal_cluster.local import Members, Nodes, until
+from mdsal_cluster.local import Members, Nodes, Place, until
 from mdsal_cluster.log import Log
 from wires import Wires
 from workload import Looker, Reader, Recorder, World, Writer
@@ -39,11 +39,16 @@ class Faults:
 
     def __init__(self, members: Members, nodes: Nodes, world: World, seed: int):
         self.members, self.nodes, self.world, self.random = members, nodes, world, random.Random(seed)
-        self.wires = {name: Wires(members.endpoints) for name in nodes.addresses}
-        nodes.endpoints = {name: it.endpoints for name, it in self.wires.items()}
         self.took: dict[str, list[float | None]] = collections.defaultdict(list)
         self.found: list[str] = []
         self.epochs: dict[int, int] = {}  # of each term, as its leader said before a fault
+        self.wires = self.wired()
+
+    def wired(self) -> dict[str, Wires]:
+        """Puts wires between nodes and members, which `cut` cuts."""
+        wires = {name: Wires(self.members.endpoints) for name in self.nodes.addresses}
+        self.nodes.endpoints = {name: it.endpoints for name, it in wires.items()}
+        return wires
 
     def kinds(self) -> dict[str, Callable[[], float | None]]:
         return {
@@ -168,20 +173,20 @@ class Faults:
 class Test:
     """A run of the test, in its folder."""
 
-    def __init__(self, words: argparse.Namespace):
+    def __init__(self, words: argparse.Namespace, place: Place = Place(), faults: type[Faults] = Faults):
         self.words, self.folder, self.history = words, words.folder, f"{words.folder}/history"
         for it in (self.history, f"{self.folder}/nodes"):
             shutil.rmtree(it, ignore_errors=True)
         os.makedirs(self.history)
         with open(SCRIPT, "rb") as file:
             self.script = file.read()
-        self.members = Members(f"{self.folder}/etcd")
-        self.nodes = Nodes(f"{self.folder}/nodes", SCRIPT, self.members.endpoints)
+        self.members = Members(f"{self.folder}/etcd", place=place)
+        self.nodes = Nodes(f"{self.folder}/nodes", SCRIPT, self.members.endpoints, place)
         self.nodes.more = ["--lease", "1", "--epoch", "60", "--snapshot", "100", *(["--seize"] if words.seize else [])]
         self.nodes.programs["c"] = [*WRONG, "parts"]
         if words.wrong:
             self.nodes.programs = {name: [*WRONG, words.wrong] for name in self.nodes.addresses}
-        self.world = World(self.history)
+        self.world, self.faults = World(self.history), faults
         self.auditor = Auditor(Log(self.members.endpoints, self.script), self.script)
         self.crowd: list[Recorder] = []
         self.crowds = 0
@@ -207,7 +212,7 @@ class Test:
         """Runs the rounds, and returns the exit status."""
         try:
             self.auditor.start()
-            faults = Faults(self.members, self.nodes, self.world, self.words.seed)
+            faults = self.faults(self.members, self.nodes, self.world, self.words.seed)
             self.nodes.start()
             faults.leader()
             self.start_crowd()
@@ -279,7 +284,7 @@ class Test:
                 print(f"{kind}: {len(took)} times, {good[0]:.2f} to {good[-1]:.2f} s, middle {good[len(good) // 2]:.2f}")
 
 
-def main() -> int:
+def words_of(arguments: list[str]) -> argparse.Namespace:
     words = argparse.ArgumentParser()
     words.add_argument("folder")
     words.add_argument("rounds", type=int)
@@ -287,8 +292,8 @@ def main() -> int:
     words.add_argument("--wrong")
     words.add_argument("--only")
     words.add_argument("--seize", action="store_true")
-    return Test(words.parse_args()).run()
+    return words.parse_args(arguments)
 
 
 if __name__ == "__main__":
-    sys.exit(main())
+    sys.exit(Test(words_of(sys.argv[1:])).run())

@@ -6,9 +6,9 @@ It needs MDSAL_LIBRARY.
 """
 from __future__ import annotations
 
-
 import os
 import sys
+import threading
 from collections.abc import Callable
 from typing import Any
 
@@ -21,6 +21,7 @@ from mdsal_cluster.replica import Replica
 from wrong import LOGS
 
 HERE = os.path.dirname(os.path.abspath(__file__))
+ALONE = 2.5  # seconds that a member without the others gets for an answer
 REGISTER = "/registers:registers/register[name='{}']"
 with open(f"{HERE}/registers.json", "rb") as it:
     SCRIPT = it.read()
@@ -167,6 +168,11 @@ class Rules:
         self.members.kill(1)
         self.members.kill(2)
         self.check("without a quorum nothing is written", fails(Unknown, self.b.etcd.transaction, [], [put("/x", "1")]))
+        alone = type(self.a)(self.members.endpoints[:1], SCRIPT)
+        asks = threading.Thread(target=alone.confirm, args=(self.third,), daemon=True)
+        asks.start()
+        asks.join(ALONE)
+        self.check("and a member alone confirms no term", asks.is_alive())
 
 
 def main() -> int:

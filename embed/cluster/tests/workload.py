@@ -20,6 +20,7 @@ class World:
 
     def __init__(self, folder: str):
         self.folder, self.stop, self.lock = folder, threading.Event(), threading.Lock()
+        self.lull = threading.Event()  # writers wait while it is set
         self.count, self.newest, self.begun = 0, 0, 0.0  # `begun` is when the last acknowledged write was sent
         self.broken: list[str] = []  # clients that ended by an error
 
@@ -72,6 +73,8 @@ class Writer(Recorder):
         self.link, self.count = Client(addresses, 2.0), 0
 
     def once(self) -> None:
+        if self.world.lull.is_set():
+            return time.sleep(0.02)
         names = self.random.sample(NAMES, self.random.randrange(1, 4))
         try:
             values = self.begin(names)

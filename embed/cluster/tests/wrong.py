@@ -8,15 +8,16 @@
 | `no-term` | appends after a comparison of the tail alone |
 | `early` | answers before the append |
 | `stale` | answers reads without a comparison of the term |
+| `local` | answers reads after a comparison that a member makes alone, from what it has |
 | `parts` | nothing: but most of its appends and snapshots go in parts |
 """
 import sys
 from typing import Any
 
 import mdsal_cluster.log
-from mdsal_cluster.etcd import Json, has_value
+from mdsal_cluster.etcd import Json, has_value, was_modified_at
 from mdsal_cluster.leader import Leader, Made
-from mdsal_cluster.log import Log, Tail
+from mdsal_cluster.log import Fenced, Log, Tail, until_answered
 from mdsal_cluster.node import Node, words_of
 
 
@@ -28,6 +29,12 @@ class NoTerm(Log):
 class Stale(Log):
     def confirm(self, term: int) -> None:
         pass
+
+
+class Local(Log):
+    def confirm(self, term: int) -> None:
+        if not until_answered(lambda: self.etcd.transaction([was_modified_at(self.leader, term)], [])).held:
+            raise Fenced(f"a read in term {term}")
 
 
 class Unfenced(Stale):
@@ -42,7 +49,7 @@ class Early(Leader):
         return it
 
 
-LOGS: dict[str, type[Log]] = {"unfenced": Unfenced, "no-term": NoTerm, "stale": Stale}
+LOGS: dict[str, type[Log]] = {"unfenced": Unfenced, "no-term": NoTerm, "stale": Stale, "local": Local}
 LEADERS: dict[str, type[Leader]] = {"early": Early}
 
 if __name__ == "__main__":

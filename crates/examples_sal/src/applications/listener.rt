@@ -29,7 +29,7 @@ impl Listener {
     {
         let top = Path::root(alloc);
         let (id, opened) = sal.listen(rt, alloc, seat, 0, Store::Config, &top)?;
-        let mirror = Mirror::open(&opened)?;
+        let mirror = Mirror::open(alloc, &opened)?;
         Ok(Listener { id, mirror })
     }
 
@@ -51,7 +51,8 @@ impl Listener {
     }
 
     /// Whether the mirror has these rows.
-    pub(crate) fn shows(&self, rows: &Rows) -> bool {
-        self.mirror.rows().items() == rows.items()
+    pub(crate) fn shows(&self, alloc: Global, rows: &Rows) -> anyhow::Result<bool> {
+        let shown = self.mirror.rows(alloc)?;
+        Ok(shown.items() == rows.items())
     }
 }

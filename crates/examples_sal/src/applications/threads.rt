@@ -91,10 +91,11 @@ fn end_of(
 ) -> anyhow::Result<End> {
     let config = &hub.trees().config;
     let committed = config.rows(alloc, &Path::root(alloc))?;
+    let is_mirrored = listener.shows(alloc, &committed)?;
     Ok(End {
         last: number_in(&committed),
         commits: hub.newest(),
         told,
-        is_mirrored: listener.shows(&committed),
+        is_mirrored,
     })
 }

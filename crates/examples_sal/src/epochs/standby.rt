@@ -84,6 +84,6 @@ fn seen_by(standing: &Standing) -> anyhow::Result<Seen> {
     let Some(frame) = standing.follower.version() else {
         bail!("no frame came");
     };
-    let number = number_in(standing.follower.rows(Store::Config));
+    let number = number_in(&standing.follower.rows(Store::Config)?);
     Ok(Seen { frame, number })
 }

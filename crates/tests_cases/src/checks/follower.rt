@@ -37,8 +37,11 @@ pub(crate) fn feed(
 
 /// Whether the follower has the commit, with `rows` rows in the configuration, none in the other tree, and no byte of another frame.
 pub(crate) fn holds(follower: &Follower, commit: u64, rows: usize) -> bool {
+    let (Ok(config), Ok(oper)) = (follower.rows(Store::Config), follower.rows(Store::Oper)) else {
+        return false;
+    };
     follower.version() == Some(commit)
         && follower.waiting() == 0
-        && follower.rows(Store::Config).items().len() == rows
-        && follower.rows(Store::Oper).items().is_empty()
+        && config.items().len() == rows
+        && oper.items().is_empty()
 }

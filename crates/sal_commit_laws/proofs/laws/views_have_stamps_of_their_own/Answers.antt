@@ -6,11 +6,17 @@ use Rattle.sal_node.specs.Tree.{Tree}
 use Rattle.sal_tree.specs.Rows.{rows_of}
 use Rattle.sal_tree.proofs.Follows.{some_same}
 use Rattle.sal_tx.specs.Views.{stamp_of}
-use Rattle.sal_commit_laws.proofs.Ages.{no_view}
+use Rattle.sal_commit_laws.proofs.Ages.{first_has_none, next_has_none, no_view}
 use Rattle.sal_commit_laws.proofs.laws.views_have_stamps_of_their_own.Goals as goal
 
 pub returns-clause-own : goal.returns-clause-own
 returns-clause-own _ commits k place d s following first at_d p n stands = no_view commits following s p place k d n first at_d stands
+
+pub returns-clause-first : goal.returns-clause-first
+returns-clause-first _ commits place c s following at_c none = first_has_none commits following place c s at_c none
+
+pub returns-clause-next : goal.returns-clause-next
+returns-clause-next _ commits place c s none at_c = next_has_none commits place c s none at_c
 
 pub returns-clause-touched : goal.returns-clause-touched
 returns-clause-touched _ place s ops base view p n m after none a b = (

@@ -10,14 +10,14 @@ returns-in-Part-clause-stepped c =
     let l = c.loop-used in
     let bytes = c.args.bytes.now in
     let part : front (drop l.used bytes) ≡ Part = ap front (sym (to_end bytes l.used)) ∙ sym c.front_of.ensures ∙ c.in-Part.is in
-    ends-part c.args.reader.now.schema.now c.args.run.state l.run.state bytes l.used l.invariant.0 l.invariant.1 part l.invariant.3 l.invariant.2.within
+    ends-part c.args.reader.now.schema.now c.args.state l.state bytes l.used l.invariant.0 l.invariant.1 part l.invariant.3 l.invariant.2.within
 
 pub returns-in-Broken-clause-stepped : goal.returns-in-Broken-clause-stepped
 returns-in-Broken-clause-stepped c =
     let l = c.loop-used in
     let bytes = c.args.bytes.now in
     let broken : front (drop l.used bytes) ≡ Broken = ap front (sym (to_end bytes l.used)) ∙ sym c.front_of.ensures ∙ c.in-Broken.is in
-    ends-broken c.args.reader.now.schema.now c.args.run.state l.run.state bytes l.used l.invariant.0 l.invariant.1 c.stopped.result.state broken c.stopped.ensures.held (search rules)
+    ends-broken c.args.reader.now.schema.now c.args.state l.state bytes l.used l.invariant.0 l.invariant.1 c.failed.result broken c.failed.ensures.held (search rules)
 
 pub text_of-requires : goal.text_of-requires
 text_of-requires c = (whole-there (take (length c.args.bytes.now - c.loop-used.used) (drop c.loop-used.used c.args.bytes.now)) c.in-Whole.len (sym c.front_of.ensures ∙ c.in-Whole.is)).0
@@ -39,8 +39,8 @@ returns-then-is_some-clause-stepped c =
     let bytes = c.args.bytes.now in
     let whole : front (drop l.used bytes) ≡ Whole c.in-Whole.len = ap front (sym (to_end bytes l.used)) ∙ sym c.front_of.ensures ∙ c.in-Whole.is in
     let text : c.text_of.result.now ≡ text_in (drop l.used bytes) c.in-Whole.len = c.text_of.ensures ∙ ap (λ r. text_in r c.in-Whole.len) (to_end bytes l.used) in
-    ends-fault c.args.reader.now.schema.now c.args.run.state l.run.state bytes l.used l.invariant.0 l.invariant.1 c.in_ok-run-in-Whole.run'.state c.in-Whole.len c.text_of.result.now whole text c.in_ok-run-in-Whole.ensures.held
-    (sym c.is_some.ensures ∙ c.if-is_some.true) c.in_ok-run-in-Whole.ensures.sound.within
+    ends-fault c.args.reader.now.schema.now c.args.state l.state bytes l.used l.invariant.0 l.invariant.1 c.in_ok-state-in-Whole.state c.in-Whole.len c.text_of.result.now whole text c.in_ok-state-in-Whole.ensures.held
+    (sym c.is_some.ensures ∙ c.if-is_some.true) c.in_ok-state-in-Whole.ensures.sound.within
 
 pub loop-used-preserved : goal.loop-used-preserved
 loop-used-preserved c =
@@ -52,12 +52,12 @@ loop-used-preserved c =
     let len : length c.text_of.result.now ≡ n = ap length text ∙ text-length (drop l.used bytes) n whole in
     let there : n + 9 < length (drop l.used bytes) = (whole-there (drop l.used bytes) n whole).0 in
     let size : length (drop l.used bytes) ≡ length bytes - l.used = length-drop l.used bytes in
-    let at : c.in_ok-run-in-Whole.run'.state.first + c.in_ok-run-in-Whole.run'.state.at ≤ l.run.state.first + l.run.state.at + (length c.text_of.result.now + 10) = c.in_ok-run-in-Whole.ensures.at in
+    let at : c.in_ok-state-in-Whole.state.first + c.in_ok-state-in-Whole.state.at ≤ l.state.first + l.state.at + (length c.text_of.result.now + 10) = c.in_ok-state-in-Whole.ensures.at in
     let room = l.invariant.4 in
     let inside = l.invariant.3 in (
-      one_more c.args.reader.now.schema.now l.run.state c.in_ok-run-in-Whole.run'.state bytes c.text_of.result.now l.used n l.invariant.1 whole text c.in_ok-run-in-Whole.ensures.held ∙ l.invariant.0,
-      none_there c.in_ok-run-in-Whole.run'.state.fault (sym c.is_some.ensures ∙ c.if-is_some.false),
-      c.in_ok-run-in-Whole.ensures.sound,
+      one_more c.args.reader.now.schema.now l.state c.in_ok-state-in-Whole.state bytes c.text_of.result.now l.used n l.invariant.1 whole text c.in_ok-state-in-Whole.ensures.held ∙ l.invariant.0,
+      none_there c.in_ok-state-in-Whole.state.fault (sym c.is_some.ensures ∙ c.if-is_some.false),
+      c.in_ok-state-in-Whole.ensures.sound,
       omega arith,
       omega (arith, room),
     )
@@ -66,7 +66,7 @@ pub returns-clause-stepped : goal.returns-clause-stepped
 returns-clause-stepped c =
     let l = c.loop-used in
     let all : length c.args.bytes.now ≤ l.used = omega arith in
-    ends-all c.args.reader.now.schema.now c.args.run.state l.run.state c.args.bytes.now l.used l.invariant.0 l.invariant.1 all l.invariant.3 l.invariant.2.within
+    ends-all c.args.reader.now.schema.now c.args.state l.state c.args.bytes.now l.used l.invariant.0 l.invariant.1 all l.invariant.3 l.invariant.2.within
 
 pub overflow_add-used : goal.overflow_add-used
 overflow_add-used c =

@@ -2,7 +2,7 @@
 use Rattle.std.proofs.Common.{map, ap, sym, ◌∙◌}
 use Rattle.sal_script.specs.Tables.{last_among}
 use Rattle.sal_script.specs.Reading.{parts}
-use Rattle.sal_prepare.specs.Resumed.{resumed}
+use Rattle.sal_prepare.specs.Resumed.{resumed_with}
 use Rattle.sal_prepare.specs.Scripted.{versions_shared}
 use Rattle.sal_prepare.specs.declared.status.Status.TheVariants.{NoMemory}
 use Rattle.sal_prepare.proofs.Each.{comes_err}
@@ -16,4 +16,4 @@ returns-clause-schemas c =
 -- the clause makes no statement about missing memory
 pub returns-in_err-schemas-clause-world : goal.returns-in_err-schemas-clause-world
 returns-in_err-schemas-clause-world c =
-    comes_err _ (resumed c.args.script.now.rules (parts c.args.script.now).devices (versions_shared c.args.all.now) c.args.opening) _ NoMemory c.from_residual-in_err-schemas.ensures.1 tt
+    comes_err _ (resumed_with c.args.script.now.rules (parts c.args.script.now).devices (versions_shared c.args.all.now) c.args.openings.own c.args.openings.devices.items) _ NoMemory c.from_residual-in_err-schemas.ensures.1 tt

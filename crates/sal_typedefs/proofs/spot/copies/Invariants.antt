@@ -1,7 +1,6 @@
--- The first statements.
+-- The first blocks.
 use Rattle.std.proofs.Common.{◌≡◌, take}
-use Rattle.sal_typedefs.specs.Spots.{stmts}
 use Rattle.sal_typedefs.proofs.spot.copies.Given as goal
 
-abbrev pub invariant-loop-stmt : goal.invariant-loop-stmt
-invariant-loop-stmt l = stmts l.copy.items ≡ stmts (take l.stmt-index l.list)
+abbrev pub invariant-loop-block : goal.invariant-loop-block
+invariant-loop-block l = l.copy.items ≡ take l.block-index l.list

@@ -4,7 +4,7 @@ use Rattle.sal_hub.specs.HubHistory.{HubHistory}
 use Rattle.sal_prepare.specs.Scripted.{seen}
 use Rattle.sal_prepare.proofs.Each.{comes_err}
 use Rattle.sal_embed.specs.Opening.{opened, reads_of, world_of}
-use Rattle.sal_embed.proofs.Opened.{begun, opened_bad, opened_fault, opened_reads, opened_world, reads_bad, reads_fault}
+use Rattle.sal_embed.proofs.Opened.{opened_bad, opened_fault, opened_reads, opened_world, reads_bad, reads_fault}
 use Rattle.sal_embed.proofs.embedded.Embedded.open.Goals as goal
 
 pub returns-in_err-prepared-clause-opens : goal.returns-in_err-prepared-clause-opens
@@ -22,7 +22,7 @@ returns-in_err-bare-clause-opens c =
 
 pub returns-clause-opens : goal.returns-clause-opens
 returns-clause-opens c =
-    opened_world c.args.script.now (seen c.in_ok-prepared.prepared) c.in_ok-prepared.ensures.prepared c.in_ok-bare.ensures ∙ ap (λ (h : HubHistory). Ok h.world) (sym c.over.ensures.hub)
+    opened_world c.args.script.now (seen c.in_ok-prepared.prepared) c.in_ok-prepared.ensures.prepared c.in_ok-bare.ensures ∙ ap (λ (h : HubHistory). Ok h.world) (sym c.prepared_over.ensures.hub)
 
 pub returns-in_err-prepared-clause-reads : goal.returns-in_err-prepared-clause-reads
 returns-in_err-prepared-clause-reads c =
@@ -39,7 +39,4 @@ returns-in_err-bare-clause-reads c =
 
 pub returns-clause-reads : goal.returns-clause-reads
 returns-clause-reads c =
-    opened_reads c.args.script.now (seen c.in_ok-prepared.prepared) c.in_ok-prepared.ensures.prepared c.in_ok-bare.ensures ∙ ap (λ (b : Bool). Ok b) (sym c.over.ensures.reads)
-
-pub returns-clause-begun : goal.returns-clause-begun
-returns-clause-begun c = begun c.over.result (ap (λ (h : HubHistory). h.log) c.over.ensures.hub ∙ c.in_ok-prepared.ensures.fresh) c.over.ensures.callers
+    opened_reads c.args.script.now (seen c.in_ok-prepared.prepared) c.in_ok-prepared.ensures.prepared c.in_ok-bare.ensures ∙ ap (λ (b : Bool). Ok b) (sym c.prepared_over.ensures.reads)

@@ -1,73 +1,18 @@
--- The versions from this one on.
-use Rattle.std.proofs.Common.{◌≡◌, ℕ, ◌<◌, IsTrue, List, length, ap, sym, ◌∙◌, subst, arith}
-use Rattle.sal_schema.specs.declared.table.SchemaTable.{SchemaTable}
-use Rattle.sal_schema.specs.Fitting.{is_closed}
+-- Nothing is given for a device.
+use Rattle.std.proofs.Common.{List, Option, ap, subst}
+use Rattle.sal_history.specs.declared.opening.Opening.{Opening}
 use Rattle.sal_client.specs.Lists.{begun_with}
 use Rattle.sal_script.specs.Reading.{parts}
-use Rattle.sal_script.specs.Tables.{first_in, table_at, versions_in}
-use Rattle.sal_prepare.specs.Openings.{AreChains}
-use Rattle.sal_prepare.specs.Resumed.{resumed}
-use Rattle.sal_prepare.specs.Scripted.{Comes, tables_in, versions_shared}
-use Rattle.sal_prepare.specs.declared.domains.Schemas.{Schemas}
+use Rattle.sal_prepare.specs.Resumed.{devices_fit, resumed_with}
+use Rattle.sal_prepare.specs.Scripted.{Comes}
 use Rattle.sal_prepare.specs.declared.resumed.Ground.{Ground}
-use Rattle.sal_prepare.proofs.Resuming.{as-many, closed-of, first-begun, inside-of, shared-from, some-own}
-use Rattle.sal_prepare.proofs.SoundWorlds.{chains_on}
 use Rattle.sal_prepare.proofs.resumed.Ground.resume.Goals as goal
 
--- a version of the readers is one of the schemas
-within : (all : Schemas) (readers : List (List SchemaTable)) (v : ℕ) → readers ≡ versions_shared all → v < length (versions_in readers 0) → v < length (tables_in all.own.items)
-within all readers v read inside = subst (λ (ts : List (List SchemaTable)). v < length (versions_in ts 0)) read inside
-
-pub schemas_from-requires : goal.schemas_from-requires
-schemas_from-requires c = inside-of c.args.self.now.readers c.args.version c.args.opening c.requires
-
-pub resumed_over-requires-clause-chains : goal.resumed_over-requires-clause-chains
-resumed_over-requires-clause-chains c =
-    let g : Ground = c.args.self.now in
-    let inside = within g.all g.readers c.args.version g.read (inside-of g.readers c.args.version c.args.opening c.requires) in
-    subst AreChains (sym (shared-from g.all c.in_ok-all.all c.args.version c.in_ok-all.ensures.own c.in_ok-all.ensures.devices inside)) (chains_on (versions_shared g.all) c.args.version c.are_sound.ensures.chains)
-
-pub resumed_over-requires-clause-own : goal.resumed_over-requires-clause-own
-resumed_over-requires-clause-own c =
-    let g : Ground = c.args.self.now in
-    let inside = within g.all g.readers c.args.version g.read (inside-of g.readers c.args.version c.args.opening c.requires) in
-    some-own g.all c.in_ok-all.all c.args.version c.in_ok-all.ensures.own c.in_ok-all.ensures.devices inside
-
-pub resumed_over-requires-clause-count : goal.resumed_over-requires-clause-count
-resumed_over-requires-clause-count c =
-    let g : Ground = c.args.self.now in
-    let inside = within g.all g.readers c.args.version g.read (inside-of g.readers c.args.version c.args.opening c.requires) in
-    let many = as-many g.all c.in_ok-all.all c.args.version c.in_ok-all.ensures.own c.in_ok-all.ensures.devices inside in
-    omega (arith, many, g.count)
-
-pub resumed_over-requires-clause-few : goal.resumed_over-requires-clause-few
-resumed_over-requires-clause-few c =
-    let g : Ground = c.args.self.now in
-    let inside = within g.all g.readers c.args.version g.read (inside-of g.readers c.args.version c.args.opening c.requires) in
-    let many = as-many g.all c.in_ok-all.all c.args.version c.in_ok-all.ensures.own c.in_ok-all.ensures.devices inside in
-    omega (arith, many, g.few)
-
-pub resumed_over-requires-clause-config : goal.resumed_over-requires-clause-config
-resumed_over-requires-clause-config c =
-    let g : Ground = c.args.self.now in
-    let inside = within g.all g.readers c.args.version g.read (inside-of g.readers c.args.version c.args.opening c.requires) in
-    let first : first_in (versions_shared c.in_ok-all.all) 0 ≡ table_at g.readers c.args.version 0 =
-    ap (λ (ts : List (List SchemaTable)). first_in ts 0) (shared-from g.all c.in_ok-all.all c.args.version c.in_ok-all.ensures.own c.in_ok-all.ensures.devices inside)
-    ∙ first-begun (versions_shared g.all) c.args.version ∙ ap (λ (ts : List (List SchemaTable)). table_at ts c.args.version 0) (sym g.read) in
-    subst (λ (t : SchemaTable). IsTrue (is_closed t c.args.opening.config)) (sym first) (closed-of g.readers c.args.version c.args.opening c.requires).0
-
-pub resumed_over-requires-clause-oper : goal.resumed_over-requires-clause-oper
-resumed_over-requires-clause-oper c =
-    let g : Ground = c.args.self.now in
-    let inside = within g.all g.readers c.args.version g.read (inside-of g.readers c.args.version c.args.opening c.requires) in
-    let first : first_in (versions_shared c.in_ok-all.all) 0 ≡ table_at g.readers c.args.version 0 =
-    ap (λ (ts : List (List SchemaTable)). first_in ts 0) (shared-from g.all c.in_ok-all.all c.args.version c.in_ok-all.ensures.own c.in_ok-all.ensures.devices inside)
-    ∙ first-begun (versions_shared g.all) c.args.version ∙ ap (λ (ts : List (List SchemaTable)). table_at ts c.args.version 0) (sym g.read) in
-    subst (λ (t : SchemaTable). IsTrue (is_closed t c.args.opening.oper)) (sym first) (closed-of g.readers c.args.version c.args.opening c.requires).1
+pub resume_with-requires-clause-devices : goal.resume_with-requires-clause-devices
+resume_with-requires-clause-devices c = ap (devices_fit c.args.self.now.readers) c.new-devices.ensures.items
 
 pub returns-clause-world : goal.returns-clause-world
 returns-clause-world c =
     let g : Ground = c.args.self.now in
-    let inside = within g.all g.readers c.args.version g.read (inside-of g.readers c.args.version c.args.opening c.requires) in
-    let same = shared-from g.all c.in_ok-all.all c.args.version c.in_ok-all.ensures.own c.in_ok-all.ensures.devices inside ∙ ap (begun_with c.args.version) (sym g.read) in
-    subst (λ (ts : List (List SchemaTable)). Comes (λ it. it.hub.world) (resumed g.script.rules (parts g.script).devices ts c.args.opening) c.resumed_over.result) same c.resumed_over.ensures.world
+    subst (λ (given : List (Option Opening)). Comes (λ it. it.hub.world) (resumed_with g.script.rules (parts g.script).devices (begun_with c.args.version g.readers) c.args.opening given) c.resume_with.result) c.new-devices.ensures.items
+    c.resume_with.ensures.world

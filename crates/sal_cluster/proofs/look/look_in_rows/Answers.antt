@@ -1,6 +1,0 @@
--- The text is that of the reply.
-use Rattle.sal_cluster.proofs.Looking.{looked}
-use Rattle.sal_cluster.proofs.look.look_in_rows.Goals as goal
-
-pub returns-in-Ok-rows_reply : goal.returns-in-Ok-rows_reply
-returns-in-Ok-rows_reply c = looked _ _ _ _ _ _ _ c.in-Ok.ensures.cases.0 c.in-Ok-rows_reply.ensures c.told.ensures

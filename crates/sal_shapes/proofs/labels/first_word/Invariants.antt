@@ -1,6 +1,0 @@
-use Rattle.std.proofs.Common.{◌≡◌, ◌+◌, drop, nat_eq}
-use Rattle.std.specs.List.{position_or_len}
-use Rattle.sal_shapes.proofs.labels.first_word.Given as goal
-
-abbrev pub invariant-loop-i : goal.invariant-loop-i
-invariant-loop-i l = position_or_len (λ b. nat_eq b 32) l.text ≡ l.i + position_or_len (λ b. nat_eq b 32) (drop l.i l.text)

@@ -1,4 +1,3 @@
-pub mod Empty
 pub mod Texts
 pub use Rattle.sal_turn.proofs.AllJoined
 pub use Rattle.sal_hub.proofs.OneVersion

@@ -13,7 +13,7 @@
 //!
 //! ```
 //! push_modules(alloc, &mut out, 0, &["module m {\n  namespace a; prefix m;\n  leaf x { type string; must '1'; }\n}\n"])?;
-//! // device 0 module 0 line 3 column 26: ignored: must '1'; }
+//! // device 0 module 0 line 3 column 25: ignored: must '1'; }
 //! ```
 //!
 //! Cost: linear in the texts: places are counted from one statement to the next. Recursion is at most 65 calls deep.

@@ -1,12 +1,12 @@
 -- The texts of domains, borrowed.
-use Rattle.std.proofs.Common.{◌≡◌, ◌∙◌, ◌<◌, ◌^◌, ◌-◌, ℕ, zero, suc, List, [], ◌∷◌, ◌++◌, All, Bor, IsTrue, get_or, length, map, nat_lt, ap, arith, refl, subst, sym}
+use Rattle.std.proofs.Common.{◌≡◌, ◌<◌, ◌^◌, ◌-◌, ℕ, zero, suc, List, [], ◌∷◌, All, Bor, IsTrue, get_or, length, map, nat_lt, ap, arith, subst, sym}
 use Rattle.std.specs.List.{sum_by}
 use Rattle.std.proofs.lemmas.Bool.Decides.{nat_tests}
 use Rattle.std.proofs.lemmas.List.Elements.{All-cons, All-nil}
 use Rattle.std.proofs.lemmas.List.Sums.{sum_by-cons}
 use Rattle.sal_script.specs.declared.script.ScriptDevice.{ScriptDevice}
 use Rattle.sal_script.specs.Limits.{are_short}
-use Rattle.sal_script.specs.Reading.{device, devices}
+use Rattle.sal_script.specs.Reading.{devices}
 use Rattle.sal_script.specs.Script.{DeviceParts}
 use Rattle.sal_lint_script.specs.Linted.{texts_in}
 

@@ -1,3 +1,2 @@
 pub mod Borrowed
 pub mod Domains
-pub mod Ends

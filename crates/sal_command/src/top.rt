@@ -162,7 +162,7 @@ fn write_linted<K: Sink>(sink: &mut K, linted: Linted) -> Status
 {
     match write_all(sink, linted.text.items()) {
         Ok(()) => linted.status,
-        Err(_) => Status::WriteFault,
+        Err(_failed) => Status::WriteFault,
     }
 }
 

@@ -10,6 +10,7 @@ use Rattle.sal_embed.specs.declared.fault.StepFault.TheVariants.{BadStep, BadCli
 use Rattle.sal_embed.specs.Opening.{IsBegun, opened, world_of}
 use Rattle.sal_embed.specs.Outcomes.{Reports, Steps}
 use Rattle.sal_cluster.specs.declared.leader.Leader.{Leader}
+use Rattle.sal_cluster.specs.Leaders.{IsFirst}
 use Rattle.sal_session.specs.declared.role.Role.{Role}
 use Rattle.sal_session.specs.declared.role.Role.TheVariants.{Closed, Broker, StandBy}
 use Rattle.sal_session.specs.declared.session.Session.{Session}
@@ -47,16 +48,18 @@ is_open Closed = false
 is_open (Broker it) = true
 is_open (StandBy it) = true
 
--- a broker that begins a stream: its commit 0 has the number 0, by version 0
-abbrev pub first_leader : Clients → Leader
-first_leader it = record { broker = it; base = 0; version = 0 }
+-- a leader that begins its streams with this broker
+abbrev pub IsNew : Clients → Role → Type 0
+IsNew broker Closed = ⊥
+IsNew broker (StandBy it) = ⊥
+IsNew broker (Broker it) = (it.broker ≡ broker) × IsFirst it
 
 -- The broker of the bytes is open, with no step made; or none is, and the number and the text are those of the status: the text may be missing, if
 -- memory ran out.
 abbrev pub Opens : List ℕ → Role → List ℕ → ℕ → Type 0
 Opens bytes Closed text n = (status : Status) × (n ≡ status_number status) × IsStatusOf (world_of (opened bytes)) status × IsLine (line_of status) text
 Opens bytes (Broker it) text n =
-    (n ≡ 0) × (text ≡ []) × (world_of (opened bytes) ≡ Ok it.broker.hub.world) × IsBegun it.broker × (it ≡ first_leader it.broker)
+    (n ≡ 0) × (text ≡ []) × (world_of (opened bytes) ≡ Ok it.broker.hub.world) × IsBegun it.broker × IsFirst it
 Opens bytes (StandBy it) text n = ⊥
 
 -- a broken broker is dropped

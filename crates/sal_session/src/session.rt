@@ -2,7 +2,8 @@
 ghost use Rattle.std.specs.Prelude.{◌≡◌, [], IfOk};
 ghost use Rattle.sal_session.specs.Sessions as spec;
 ghost use Rattle.sal_session.specs.Texts.{IsLine, told};
-ghost use Rattle.sal_session.specs.declared.role.Role.TheVariants.{Broker, Closed};
+ghost use Rattle.sal_session.specs.Sessions.{IsNew};
+ghost use Rattle.sal_session.specs.declared.role.Role.TheVariants.{Closed};
 ghost use Rattle.sal_prepare.specs.Statuses.{line_of};
 
 use crate::numbers::{BROKEN, DONE, IS_STANDBY, NO_MEMORY, NOT_OPEN, number_of};
@@ -27,7 +28,7 @@ impl Session {
         ensures { spec.Opens script.now result.0.role (told result.0.text) result.1 }
     {
         match Embedded::open(alloc, script) {
-            Ok(broker) => (with(broker, alloc), DONE),
+            Ok(broker) => (begun_with(broker, alloc), DONE),
             Err(status) => (without(alloc, &status), u32::from(status.number())),
         }
     }
@@ -105,15 +106,11 @@ impl Session {
     }
 }
 
-fn with(broker: Embedded, alloc: Global) -> Session
-    ensures role { result.role ≡ Broker (record { broker = broker; base = 0; version = 0 }) }
+fn begun_with(broker: Embedded, alloc: Global) -> Session
+    ensures role { IsNew broker result.role }
     ensures text { told result.text ≡ [] }
 {
-    let leader = Leader {
-        broker,
-        base: 0,
-        version: 0,
-    };
+    let leader = Leader::first(broker);
     Session {
         role: Role::Broker { leader },
         text: nothing(alloc),

@@ -21,13 +21,13 @@ Threads may share a broker: each call holds its lock until the reply is copied.
 from . import errors, refusals, replies
 from .broker import Broker, NotCommitted, StandBy, Transaction
 from .errors import (
-    BadClient, BadExport, BadOpening, BadSchema, BadScript, BadStep, BadStream, BadVersion, Broken, Closed, Empty, Error, Full, Gone, IsOpen, IsStandBy, Lost,
+    BadClient, BadDomain, BadExport, BadOpening, BadSchema, BadScript, BadStep, BadStream, BadVersion, Broken, Closed, Empty, Error, Full, Gone, IsOpen, IsStandBy, Lost,
     NotNewest, Pending, Untold,
 )
 from .refusals import Refused
 
 __all__ = [
     "Broker", "StandBy", "Transaction", "NotCommitted", "Refused", "errors", "refusals", "replies",
-    "BadStream", "BadExport", "BadVersion", "Empty", "Gone", "IsOpen", "IsStandBy", "NotNewest", "Pending",
+    "BadStream", "BadExport", "BadVersion", "BadDomain", "Empty", "Gone", "IsOpen", "IsStandBy", "NotNewest", "Pending",
     "Error", "BadScript", "BadSchema", "BadOpening", "BadStep", "BadClient", "Full", "Lost", "Untold", "Broken", "Closed",
 ]

@@ -40,7 +40,31 @@ fn led(mut standby: StandBy) -> Result<Broker, Error> {
     standby.lead(0).map_err(|(_, error)| error)
 }
 
+const DEVICE: &str = r#"{"devices":[{"modules":["module d { namespace 'urn:d'; prefix d; leaf n { type string; } }"],"config":{"d:n":"x"}}]}"#;
+const DEVICE_OPENING: &str =
+    "00000050\n{\"commit\":0,\"config\":[[[0],\"x\"]],\"operational\":[]}\n";
+
+/// A stand-by of a broker with a device has its trees too, and goes on with the numbers of both domains.
+fn with_a_device() -> Result<(), Error> {
+    let mut broker = Broker::open(DEVICE)?;
+    assert_eq!(put(&mut broker, "x")?, Outcome::Done { commit: 1 });
+    assert_eq!(broker.numbers(), [1, 0]);
+    assert_eq!(broker.snapshot_of(1)?, DEVICE_OPENING.as_bytes());
+    assert_eq!(broker.frames_of(2, 0), Err(Error::BadDomain));
+    assert_eq!(broker.epoch_of(&[1, 1]), Err(Error::NotNewest));
+    let mut standby = StandBy::open_of(DEVICE, &[1, 0])?;
+    standby.feed_of(0, broker.snapshot_of(0)?)?;
+    standby.feed_of(1, broker.snapshot_of(1)?)?;
+    broker.epoch_of(&[1, 0])?;
+    assert_eq!(standby.look_of(1, Store::Config, "/d:n")?, "data \"x\"");
+    let mut leader = standby.lead(0).map_err(|(_, error)| error)?;
+    assert_eq!(leader.numbers(), [1, 0]);
+    assert_eq!(leader.look_of(1, Store::Config, "/d:n")?, "data \"x\"");
+    Ok(())
+}
+
 fn main() -> Result<(), Error> {
+    with_a_device()?;
     let mut broker = Broker::open("{}")?;
     let mut standby = StandBy::open("{}", 0)?;
     assert_eq!(standby.snapshot(), Err(Error::Empty));

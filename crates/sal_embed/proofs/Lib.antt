@@ -11,4 +11,5 @@ mod Script
 mod Standing
 mod Telling
 mod Turns
+mod Waiting
 mod Wished

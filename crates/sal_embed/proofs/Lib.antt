@@ -4,12 +4,12 @@ mod Emptiness
 mod Following
 mod Longer
 mod Made
-mod Opened
 mod OneStep
+mod Opened
 mod Placed
 mod Script
+mod Slots
 mod Standing
 mod Telling
 mod Turns
-mod Waiting
 mod Wished

@@ -1,5 +1,5 @@
 -- The request of the slot, or none.
-use Rattle.std.proofs.Common.{Bool, Option, ap, sym, ◌∙◌}
+use Rattle.std.proofs.Common.{Option, ap, ◌∙◌}
 use Rattle.std.specs.Option.{option_map}
 use Rattle.sal_script.specs.Play.{ask}
 use Rattle.sal_script.specs.Services.{collect}

@@ -1,5 +1,5 @@
 -- The listener of the slot is one that the log made; or there is none.
-use Rattle.std.proofs.Common.{Bool, Option, ap, sym, ◌∙◌}
+use Rattle.std.proofs.Common.{Option, ap, sym, ◌∙◌}
 use Rattle.std.specs.Option.{option_map}
 use Rattle.sal_script.specs.Play.{take_batch}
 use Rattle.sal_client.specs.declared.follower.Follower.{Follower}

@@ -1,5 +1,5 @@
 -- The receipt of the slot, or none.
-use Rattle.std.proofs.Common.{Bool, false, Option, ap, sym, ◌∙◌}
+use Rattle.std.proofs.Common.{false, Option, ap, ◌∙◌}
 use Rattle.std.specs.Option.{option_map, option_map_or}
 use Rattle.sal_hub.specs.declared.receipt.Receipt.{Receipt}
 use Rattle.sal_client.specs.Clients.{number_of}

@@ -2,7 +2,7 @@
 use Rattle.std.proofs.Common.{refl}
 use Rattle.sal_script.specs.Play.{new_client}
 use Rattle.sal_embed.specs.Waiting.{waiting}
-use Rattle.sal_embed.proofs.Waiting.{bit_by_bit}
+use Rattle.sal_embed.proofs.Slots.{bit_by_bit}
 use Rattle.sal_embed.proofs.waiting.waiting_before.Goals as goal
 
 pub returns : goal.returns

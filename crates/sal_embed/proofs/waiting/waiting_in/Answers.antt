@@ -1,7 +1,7 @@
 -- Bit by bit.
 use Rattle.sal_client.specs.Clients.{client_of}
 use Rattle.sal_embed.specs.Waiting.{waiting}
-use Rattle.sal_embed.proofs.Waiting.{bit_by_bit}
+use Rattle.sal_embed.proofs.Slots.{bit_by_bit}
 use Rattle.sal_embed.proofs.waiting.waiting_in.Goals as goal
 
 pub returns : goal.returns

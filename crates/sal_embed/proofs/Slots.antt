@@ -37,7 +37,7 @@ module _ (known : HubHistory) (c : ℕ) (client : Client) where
   by_listener (Some l) = refl
 
 module _ (known : HubHistory) (c : ℕ) (rs : List StepReply) (client : Client) (slot : ℕ) where
-  shown : Bool → Bool → Waiting
+  abbrev shown : Bool → Bool → Waiting
   shown answer changes = record {
     request = would_give known c called.NextCall;
     notes = would_give known c called.TakeNotes;
@@ -60,10 +60,11 @@ bit_by_bit r n a d g it request notes answer decided changes = λ i. record { re
 
 -- ---- by the play
 
-past : {X : Type 0} (xs : List X) (i : ℕ) → slice_get xs i ≡ None → length xs ≤ i
-past [] i none = omega arith
-past (x ∷ xs) zero none = cc
-past (x ∷ xs) (suc i) none = let rest = past xs i none in omega (arith, rest)
+none_beyond : {X : Type 0} (xs : List X) (i : ℕ) → length xs ≤ i → slice_get xs i ≡ None
+none_beyond [] zero out = refl
+none_beyond [] (suc i) out = refl
+none_beyond (x ∷ xs) zero out = absurd (omega arith)
+none_beyond (x ∷ xs) (suc i) out = none_beyond xs i (omega arith)
 
 abbrev lost_at : Option Caller → Bool
 lost_at found = option_map_or (λ (caller : Caller). not (is_some caller.run)) found false
@@ -86,9 +87,8 @@ module _ (it : Clients) (c slot : ℕ) (result : Waiting) where
   waits_for caller at number is = subst (λ (found : Option Caller). WaitsUnless (lost_at found) it c slot result) (sym at) (by_run caller at number caller.run refl is)
 
   -- one that has made no step
-  pub waits_before : slice_get it.callers.items c ≡ None → result ≡ waiting it.hub c new_client slot → Waits it c slot result
-  waits_before at is = subst (λ (found : Option Caller). WaitsUnless (lost_at found) it c slot result) (sym at) (λ programs replies was.
-      let out = past it.callers.items c at in
+  pub waits_before : length it.callers.items ≤ c → result ≡ waiting it.hub c new_client slot → Waits it c slot result
+  waits_before out is = subst (λ (found : Option Caller). WaitsUnless (lost_at found) it c slot result) (sym (none_beyond it.callers.items c out)) (λ programs replies was.
       let none = was.beyond c out in
       let other : (i : ℕ) (e : Entry) → slice_get it.hub.log i ≡ Some e → e.client ≡ c → ⊥ = λ i e found own. let placed = was.placed i e found in omega (arith, placed, own, out) in
       let tables = versions_of it.hub.world in (

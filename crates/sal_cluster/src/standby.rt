@@ -162,8 +162,9 @@ impl StandBy {
     pub fn lead(&self, alloc: Global, version: u32) -> Result<Leader, LeadFault>
         ensures { Leads self.now version result }
     {
+        let standing = &self.standing;
         match self.number(0) {
-            Some(base) => led(alloc, &self.standing, base, version),
+            Some(base) => led(alloc, standing, base, version),
             None => Err(LeadFault::Empty),
         }
     }

@@ -1,6 +1,7 @@
 """The tests of tools/embed for the Python module and for an installed library, beside those of embedded.py: each takes the library's folder and a folder
 for its output."""
 import os
+import random
 import re
 import shutil
 import subprocess
@@ -94,6 +95,52 @@ def polled(folder, room, is_wrong=False):
             raises(OverflowError, broker.waits, *words)
     same("of a closed broker", broker.waits(1, 7), 0)
     return "Python: iterators over changes, requests and notifications; polls in vain add nothing to the log"
+
+
+def random_step(dice):
+    """Returns a client and one of the steps that change what waits."""
+    slot, text = dice.randrange(2), dice.choice("xyz")
+    return dice.randrange(3), dice.choice((
+        ["begin", slot, 0, "rw"], ["put", slot, "config", f"/p:{dice.choice('ab')}", text], ["submit", slot], ["submit", slot], ["settle", slot], ["pump"],
+        ["listen", slot, 0, "config", dice.choice(["/p:a", "/p:b"])], ["take", slot], ["unlisten", slot], ["provide", "p:go", None], ["withdraw", "p:go", None],
+        ["invoke", slot, "p:go", None, {"x": text}], ["next-call", slot], ["answer", slot, {"y": text}], ["collect", slot],
+        ["subscribe", "p:hot"], ["offer", "p:hot", {"t": text}], ["take-notes"],
+    ))
+
+
+def flags_by_steps(mdsal, made, receipts, client, slot):
+    """What waits for the client, by the steps that take it: each is made once by another broker, behind the same steps."""
+    def replies(*steps):
+        with mdsal.Broker({"modules": [POLLED]}) as other:
+            for it in made:
+                other.step(*it)
+            return other.steps(client, steps)
+
+    batch, flags = replies(["take", slot])[0].split(" "), mdsal.Waiting
+    undecided = [f"decided {receipts.get((client, slot))} " in it for it in replies(*[["pump"]] * len(receipts))]
+    given = {
+        flags.REQUEST: replies(["next-call", slot])[0].startswith("request "), flags.NOTES: replies(["take-notes"]) != ["notes []"],
+        flags.ANSWER: replies(["collect", slot])[0].startswith("output "), flags.DECIDED: (client, slot) in receipts and not any(undecided),
+        flags.CHANGES: batch[0] == "batch" and int(batch[1]) < int(batch[2]),
+    }
+    return sum(flag for flag, is_set in given.items() if is_set)
+
+
+def polled_as_made(folder, room, is_wrong=False):
+    """Behind random steps each flag is what the step then gives."""
+    mdsal, dice, made, receipts, seen = library(folder), random.Random(1), [], {}, set()
+    with mdsal.Broker({"modules": [POLLED]}) as broker:
+        for _ in range(160):
+            client, step = random_step(dice)
+            told = broker.step(client, step)
+            made.append((client, step))
+            if told.startswith("receipt "):
+                receipts[client, step[1]] = int(told.split(" ")[1])
+            for slot in range(2):
+                wanted = flags_by_steps(mdsal, made, receipts, client, slot)
+                same(f"what waits for client {client} in slot {slot} behind {len(made)} steps", int(broker.waits(client, slot)), wanted ^ is_wrong)
+                seen.add(wanted)
+    return f"Python: what waits is what the steps give, behind each of {len(made)} random ones, in {len(seen)} combinations"
 
 
 # ---- replies with fields

@@ -11,9 +11,9 @@
 **     n = mdsal_reply(&broker, out, sizeof out);                          "begun 0"
 **     mdsal_close(&broker);
 **
-** Each commit of the controller's own domain is a frame (docs/FORMATS.md, "Frames"), which the program may keep in a file or send. A stand-by
-** takes such frames, and can become the broker: after a restart, or when another process has failed. An epoch begins anew with an empty log, so
-** a broker may run without end.
+** Each commit of a domain is a frame (docs/FORMATS.md, "Frames"), which the program may keep in a file or send. A stand-by takes such frames, and
+** can become the broker: after a restart, or when another process has failed. An epoch begins anew with an empty log, so a broker may run without
+** end. Domain 0 is the controller's own; a script with devices has a stream for each of them too, by the calls whose names end in _of.
 **
 **     mdsal_frames(&broker, sent), n = mdsal_reply(&broker, out, sizeof out);    the frames above the number `sent`: append them to a file
 **     mdsal_epoch(&broker, mdsal_number(&broker));                                if all frames are in the file
@@ -86,7 +86,8 @@ enum {
     MDSAL_PENDING = 31,     /* epoch: a submission is not decided */
     MDSAL_NOT_NEWEST = 32,  /* epoch: the newest commit has another number */
     MDSAL_EMPTY = 33,       /* lead, look, snapshot: the stand-by has no frame yet */
-    MDSAL_BAD_VERSION = 34  /* lead: the script has no such version, or the trees are not trees of it */
+    MDSAL_BAD_VERSION = 34, /* lead: the script has no such version, or the trees are not trees of it */
+    MDSAL_BAD_DOMAIN = 35   /* frames_of, snapshot_of, look_of, feed_of: the script has no domain of this number */
 };
 
 /*
@@ -193,11 +194,14 @@ uint32_t mdsal_feed(mdsal *handle, const uint8_t *bytes, size_t length);
 
 /*
 ** Makes a stand-by the broker, by this version of the schema, as the script counts: mdsal_version of the broker that made the last frame. Its
-** domain begins with the stand-by's trees, and frame numbers go on. An unfinished frame is left out. Devices begin as the script has them.
+** domains begin with the stand-by's trees, and frame numbers go on. An unfinished frame is left out. A device whose stream had no frame begins as the
+** script has it, with the number 0. All devices are unmounted: a mount is a call, and the log is empty. Once it is mounted, a device has its trees.
 **
 **   MDSAL_OK            The handle has the broker, before any step.
-**   MDSAL_EMPTY, MDSAL_BAD_VERSION, MDSAL_NOT_OPEN, MDSAL_IS_OPEN
-**                       Nothing but the text, which is empty, is changed: the stand-by stays.
+**   MDSAL_EMPTY         There is no frame of domain 0 yet.
+**   MDSAL_BAD_VERSION   The script has no such version, or the trees of a domain do not fit it.
+**   MDSAL_NOT_OPEN, MDSAL_IS_OPEN
+**                       In each of these cases nothing but the text, which is empty, is changed: the stand-by stays.
 **   MDSAL_BAD_OPENING, MDSAL_NO_MEMORY
 **                       The same, and the text is the line of the command's status, if memory did not run out for it.
 */
@@ -226,6 +230,57 @@ uint32_t mdsal_version(mdsal *handle);
 ** How many shared calls a broker's log has room for: at 0, steps answer MDSAL_FULL, and a new epoch is due. Else 0. The text stays.
 */
 size_t mdsal_left(mdsal *handle);
+
+/*
+** What waits for a client of a broker, as the sum of these. `slot` is the number of a slot, as in the client's steps. Each bit is set if and only if the
+** step would give something now:
+*/
+#define MDSAL_REQUEST 1u  /* ["next-call",slot] would give a request */
+#define MDSAL_NOTES 2u    /* ["take-notes"] would give a notification */
+#define MDSAL_ANSWER 4u   /* ["collect",slot] would give the answer to the request in the slot */
+#define MDSAL_DECIDED 8u  /* the submission whose receipt is in the slot is decided: ["settle",slot] would give its outcome, and decide nothing */
+#define MDSAL_CHANGES 16u /* the batch of ["take",slot] would go beyond the one before: its domain has commits, which may have no change at its path */
+
+/*
+** It is no step: it adds nothing to the log or the report, takes no memory, and the text stays. So a program may poll as often as it likes. It is 0 if
+** there is no broker, for a lost client, and for MDSAL_CLIENTS or more.
+*/
+uint32_t mdsal_waits(mdsal *handle, uint32_t client, uint8_t slot);
+
+/*
+** The same calls for any domain: 0 is the controller's own, and the devices have the numbers from 1 on, as in the script. Each domain has a stream
+** with numbers of its own. A call of domain 0 does what the call without _of does.
+**
+**   mdsal_frames_of, mdsal_snapshot_of, mdsal_look_of, mdsal_feed_of
+**                       As mdsal_frames, mdsal_snapshot, mdsal_look, mdsal_feed, for one domain.
+**   MDSAL_BAD_DOMAIN    There is no domain of this number. Nothing but the text, which is empty, is changed.
+**   mdsal_number_of     The number of the domain's newest commit or last frame; 0 if there is none. The text stays.
+*/
+uint32_t mdsal_frames_of(mdsal *handle, uint32_t domain, uint64_t above);
+uint32_t mdsal_snapshot_of(mdsal *handle, uint32_t domain);
+uint32_t mdsal_look_of(mdsal *handle, uint32_t domain, uint32_t store, const uint8_t *path, size_t length);
+uint32_t mdsal_feed_of(mdsal *handle, uint32_t domain, const uint8_t *bytes, size_t length);
+uint64_t mdsal_number_of(mdsal *handle, uint32_t domain);
+
+/*
+** Begins the next epoch as mdsal_epoch, by the numbers of the newest commits of the first `count` domains, domain 0 first: a program that keeps the
+** frames of devices gives the numbers of all domains, and loses none of their commits. What a domain without a number here committed since the last
+** frame that was taken is in its next snapshot alone: mdsal_frames_of cannot give it any more.
+**
+**   MDSAL_NOT_NEWEST    One of the commits has another number, or there are more numbers than domains.
+*/
+uint32_t mdsal_epoch_of(mdsal *handle, const uint64_t *newest, size_t count);
+
+/*
+** Opens a stand-by as mdsal_follow, with the numbers of the first frames of the first `count` domains, domain 0 first: the stream of a domain without a
+** number here begins with the number 0. A domain may stay without a frame (see mdsal_lead), but for domain 0.
+*/
+uint32_t mdsal_follow_of(mdsal *handle, const uint8_t *script, size_t length, const uint64_t *firsts, size_t count);
+
+/*
+** How many domains the script of a broker or a stand-by has, with domain 0; else 0. The text stays.
+*/
+size_t mdsal_domains(mdsal *handle);
 
 /*
 ** Frees the broker or the stand-by, and the text. The handle is zeros again, and may be opened again. On a closed handle it does nothing.

@@ -37,6 +37,17 @@ def wanting(folder, room, flags=()):
     return f"C: {told}; each was made again, and nothing was lost"
 
 
+def domains(folder, room, flags=()):
+    ran([compiled("domains", folder, room, ("-O2", *flags))])
+    return "C: the same of a device: its frames, epochs by all numbers, a stand-by that leads with its trees, numbers that no domain has"
+
+
+def domains_sanitized(folder, room, flags=()):
+    compiler = sanitizing(room)
+    ran([compiled("domains", folder, room, (*SANITIZERS, *flags), compiler)])
+    return f"C: the same under the sanitizers of {compiler}: no error, no leak"
+
+
 def framed(text):
     """A frame, as docs/FORMATS.md writes it."""
     return f"{len(text):08}\n{text}\n".encode()
@@ -76,6 +87,54 @@ def in_python(folder, room, is_wrong=False):
         raises(mdsal.BadStream, late.feed, FIRST)
         taken_over(mdsal, standby)
     return "Python: frames, epochs and a stand-by that leads, with their exceptions"
+
+
+MORE = "module more { namespace 'urn:more'; prefix m; leaf k { type string; } }"
+DEVICE = "module d { namespace 'urn:d'; prefix d; leaf n { type string; } }"
+
+
+def of_devices(folder, room, is_wrong=False):
+    """A broker with a device: its frames are kept, and another script goes on with one more device and one more model."""
+    mdsal = library(folder)
+    script = {"devices": [{"modules": [DEVICE], "config": {"d:n": "x"}}]}
+    with mdsal.Broker(script) as broker:
+        broker.update(lambda it: it.put("config", "/plain:box/a", "x"))
+        broker.call(0, ["mount", 1, "/plain:box"])
+        broker.update(lambda it: it.put("config", "/d:n", "y"), domain=1)
+        changed = framed('{"commit":1,"config":[[[0],"y"]],"operational":[]}')
+        same("the frames of a device", (broker.frames(0, 1), broker.snapshot(1), broker.numbers), (changed, changed, [1, 1 + is_wrong]))
+        same("a look at a device", (broker.look("config", "/d:n", 1), broker.domains), ("y", 2))
+        raises(mdsal.BadDomain, broker.frames, 0, 2), raises(mdsal.BadDomain, broker.look, "config", "/", 2), raises(OverflowError, broker.frames, 0, -1)
+        raises(mdsal.NotNewest, broker.epoch, [1, 0]), raises(mdsal.NotNewest, broker.epoch, [1, 1, 0])
+        with mdsal.StandBy(script, broker.numbers) as standby:
+            raises(mdsal.BadDomain, standby.feed, b"", 2)
+            standby.feed(broker.snapshot())
+            standby.feed(broker.snapshot(1), 1)
+            restarted(mdsal, standby)
+        renewed(mdsal, script, broker)
+    return "Python: a device's frames, a restart that brings it back, and another script with one more device and one more model"
+
+
+def restarted(mdsal, standby):
+    with standby.lead() as leader:
+        same("both domains", (leader.numbers, leader.look("config", "/plain:box/a"), leader.look("config", "/d:n", 1)), ([1, 1], "x", "y"))
+        raises(mdsal.refusals.Refused, leader.call, 0, ["begin", 0, 1, "rw"])
+        leader.call(0, ["mount", 1, "/plain:box"])
+        same("the tree of a device that mounts anew", leader.update(lambda it: it.read("config", "/d:n"), domain=1), "y")
+
+
+def renewed(mdsal, script, broker):
+    """The first script, and then with more. A script that is refused leaves the broker."""
+    more = {**script, "upgrades": [[MORE]], "devices": [*script["devices"], {"modules": [MORE], "config": {"more:k": "new"}}]}
+    raises(mdsal.BadSchema, broker.renew, {"modules": ["module m {"]}, [1, 1]), raises(mdsal.NotNewest, broker.renew, more, [0, 1])
+    raises(mdsal.BadDomain, broker.renew, "{}", [1, 1])
+    with broker.renew(more, [1, 1]) as other:
+        raises(mdsal.Closed, broker.step, 0, ["pump"])
+        looks = [other.look("config", "/plain:box/a"), other.look("config", "/d:n", 1), other.look("config", "/more:k", 2)]
+        same("the trees of the next script", (other.numbers, looks), ([1, 1, 0], ["x", "y", "new"]))
+        other.call(0, ["upgrade", 1])
+        other.update(lambda it: it.put("config", "/more:k", "z"))
+        same("a leaf of the new model", (other.look("config", "/more:k"), other.version, other.numbers), ("z", 1, [2, 1, 0]))
 
 
 def in_rust(folder, room):

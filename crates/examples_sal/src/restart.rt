@@ -7,9 +7,7 @@
 //! The domain and the client that counts in it are those of `counter`.
 use crate::counter::{Counter, LAST_NUMBER, count, device, number_in, schema};
 use anyhow::bail;
-use sal::{Bytes, Hub, Patterns, Rules, Schema, Store};
-use sal_follow::Follower;
-use sal_resume::{follower_of, frames_of, resume};
+use sal::{Bytes, Follower, Hub, Patterns, Rules, Schema, Store, follower_of, frames_of, resume};
 use std::alloc::Global;
 use std::sync::Arc;
 

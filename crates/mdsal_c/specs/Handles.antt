@@ -32,16 +32,16 @@ abbrev pub OpensIf : List ℕ → Option Session → Option Session → ℕ → 
 OpensIf bytes old new n = OpensBy (is_open old) bytes old new n
 
 -- the same for a stand-by
-abbrev pub Follows : List ℕ → ℕ → Option Session → ℕ → Type 0
-Follows bytes first (Some it) n = streams.Follows bytes first it.role (told it.text) n
-Follows bytes first None n = n ≡ 10
+abbrev pub Follows : List ℕ → List ℕ → Option Session → ℕ → Type 0
+Follows bytes firsts (Some it) n = streams.Follows bytes firsts it.role (told it.text) n
+Follows bytes firsts None n = n ≡ 10
 
-abbrev pub FollowsBy : Bool → List ℕ → ℕ → Option Session → Option Session → ℕ → Type 0
-FollowsBy true bytes first old new n = (n ≡ 22) × (new ≡ old)
-FollowsBy false bytes first old new n = Follows bytes first new n
+abbrev pub FollowsBy : Bool → List ℕ → List ℕ → Option Session → Option Session → ℕ → Type 0
+FollowsBy true bytes firsts old new n = (n ≡ 22) × (new ≡ old)
+FollowsBy false bytes firsts old new n = Follows bytes firsts new n
 
-abbrev pub FollowsIf : List ℕ → ℕ → Option Session → Option Session → ℕ → Type 0
-FollowsIf bytes first old new n = FollowsBy (is_open old) bytes first old new n
+abbrev pub FollowsIf : List ℕ → List ℕ → Option Session → Option Session → ℕ → Type 0
+FollowsIf bytes firsts old new n = FollowsBy (is_open old) bytes firsts old new n
 
 -- a call of the session, if the handle has one
 abbrev pub Calls : (Session → Session → ℕ → Type 0) → Option Session → Option Session → ℕ → Type 0
@@ -55,20 +55,21 @@ StepsIf old c bytes new n = Calls (λ it. session.StepsIf it.role c bytes) old n
 abbrev pub ReportsIf : Option Session → Option Session → ℕ → Type 0
 ReportsIf old new n = Calls (λ it. session.ReportsIf it.role) old new n
 
-abbrev pub FramesIf : Option Session → ℕ → Option Session → ℕ → Type 0
-FramesIf old above new n = Calls (λ it. streams.FramesIf it.role above) old new n
+-- of domain d
+abbrev pub FramesIf : Option Session → ℕ → ℕ → Option Session → ℕ → Type 0
+FramesIf old d above new n = Calls (λ it. streams.FramesIf it.role d above) old new n
 
-abbrev pub SnapshotsIf : Option Session → Option Session → ℕ → Type 0
-SnapshotsIf old new n = Calls (λ it. streams.SnapshotsIf it.role) old new n
+abbrev pub SnapshotsIf : Option Session → ℕ → Option Session → ℕ → Type 0
+SnapshotsIf old d new n = Calls (λ it. streams.SnapshotsIf it.role d) old new n
 
-abbrev pub EpochIf : Option Session → ℕ → Option Session → ℕ → Type 0
-EpochIf old number new n = Calls (λ it. streams.EpochIf it.role number) old new n
+abbrev pub EpochIf : Option Session → List ℕ → Option Session → ℕ → Type 0
+EpochIf old newest new n = Calls (λ it. streams.EpochIf it.role newest) old new n
 
-abbrev pub LooksIf : Option Session → ℕ → List ℕ → Option Session → ℕ → Type 0
-LooksIf old store path new n = Calls (λ it. streams.LooksIf it.role store path) old new n
+abbrev pub LooksIf : Option Session → ℕ → ℕ → List ℕ → Option Session → ℕ → Type 0
+LooksIf old d store path new n = Calls (λ it. streams.LooksIf it.role d store path) old new n
 
-abbrev pub FeedsIf : Option Session → List ℕ → Option Session → ℕ → Type 0
-FeedsIf old piece new n = Calls (λ it. streams.FeedsIf it.role piece) old new n
+abbrev pub FeedsIf : Option Session → ℕ → List ℕ → Option Session → ℕ → Type 0
+FeedsIf old d piece new n = Calls (λ it. streams.FeedsIf it.role d piece) old new n
 
 abbrev pub LeadsIf : Option Session → ℕ → Option Session → ℕ → Type 0
 LeadsIf old version new n = Calls (λ it. streams.LeadsIf it.role version) old new n
@@ -78,11 +79,19 @@ abbrev pub in_role : (Role → ℕ) → Option Session → ℕ
 in_role f None = 0
 in_role f (Some it) = f it.role
 
-abbrev pub number_in : Option Session → ℕ
-number_in held = in_role streams.number_in held
+abbrev pub number_in : Option Session → ℕ → ℕ
+number_in held d = in_role (λ role. streams.number_in role d) held
+
+abbrev pub domains_in : Option Session → ℕ
+domains_in held = in_role streams.domains_in held
 
 abbrev pub version_in : Option Session → ℕ
 version_in held = in_role streams.version_in held
 
 abbrev pub left_in : Option Session → ℕ
 left_in held = in_role streams.left_in held
+
+-- what waits for client c at this number of its slots, as bits
+abbrev pub WaitsIf : Option Session → ℕ → ℕ → ℕ → Type 0
+WaitsIf None c slot n = n ≡ 0
+WaitsIf (Some it) c slot n = session.WaitsIn it.role c slot n

@@ -2,11 +2,11 @@
 ghost use Rattle.std.specs.Prelude.{◌≡◌, false, option_map};
 ghost use Rattle.std.specs.Option.{is_some};
 ghost use Rattle.std.specs.declared.option.Option.TheVariants.{None, Some};
-ghost use Rattle.mdsal_c.specs.Handles.{Follows, Opens, is_open};
+ghost use Rattle.mdsal_c.specs.Handles.{EpochIf, Follows, FollowsIf, Opens, is_open};
 
 use crate::held::Held;
 use sal_handle::loose::Loose;
-use sal_session::{NO_MEMORY, Session, loose};
+use sal_session::{IS_OPEN, NO_MEMORY, NOT_OPEN, Session, loose};
 use std::alloc::Global;
 use std::mem;
 
@@ -68,12 +68,38 @@ impl Mdsal {
         }
     }
 
-    // Sets a stand-by if there is no session.
-    pub(crate) fn stand(&mut self, alloc: Global, script: &[u8], first: u64) -> u32
-        requires { self.old.held.value ≡ None }
-        ensures { Follows script.now first self.new.held.value result }
+    // Opens a stand-by, if none and no broker is open.
+    pub(crate) fn follow(&mut self, alloc: Global, script: &[u8], firsts: &[u64]) -> u32
+        ensures { FollowsIf script.now firsts.now self.old.held.value self.new.held.value result }
     {
-        match loose::follow(alloc, script, first) {
+        if self.is_open(alloc) {
+            return IS_OPEN;
+        }
+        self.close(alloc);
+        self.stand(alloc, script, firsts)
+    }
+
+    // Begins the next epoch of a broker.
+    pub(crate) fn epoch(&mut self, alloc: Global, newest: &[u64]) -> u32
+        ensures { EpochIf self.old.held.value newest.now self.new.held.value result }
+    {
+        let taken = self.take(alloc);
+        match taken {
+            Some(session) => {
+                let (session, status) = loose::epoch(session, alloc, newest);
+                self.put(session);
+                status
+            }
+            None => NOT_OPEN,
+        }
+    }
+
+    // Sets a stand-by if there is no session.
+    pub(crate) fn stand(&mut self, alloc: Global, script: &[u8], firsts: &[u64]) -> u32
+        requires { self.old.held.value ≡ None }
+        ensures { Follows script.now firsts.now self.new.held.value result }
+    {
+        match loose::follow(alloc, script, firsts) {
             Ok((session, status)) => {
                 self.put(session);
                 status

@@ -38,3 +38,23 @@ pub use Rattle.sal_module_table.specs.Build
 pub use Rattle.sal_module_table.specs.Versions as NextVersions
 pub use Rattle.sal_stmt.specs.Text
 pub use Rattle.sal_json.specs.Patterns
+pub use Rattle.sal_epoch.specs.Epochs
+pub use Rattle.sal_epoch.specs.Mounts
+pub use Rattle.sal_resume.specs.Committed
+pub use Rattle.sal_resume.specs.Newest
+pub use Rattle.sal_resume.specs.OverEpochs
+pub use Rattle.sal_resume.specs.Resumed
+pub use Rattle.sal_resume.specs.Streamed
+pub use Rattle.sal_follow.specs.Exporting
+pub use Rattle.sal_follow.specs.Fed
+pub use Rattle.sal_follow.specs.Framed
+pub use Rattle.sal_follow.specs.Laws as StreamLaws
+pub use Rattle.sal_follow.specs.States as Followers
+pub use Rattle.sal_follow.specs.Stream
+pub use Rattle.sal_owner.specs.Answers as OwnerAnswers
+pub use Rattle.sal_owner.specs.Laws as OwnerLaws
+pub use Rattle.sal_owner.specs.Ownership
+pub use Rattle.sal_owner.specs.Seats as OwnerSeats
+pub use Rattle.sal_owner.specs.Turns as OwnerTurns
+pub use Rattle.sal_feed.specs.Rule as Feeds
+pub use Rattle.sal_feed.specs.Seats as FeedSeats

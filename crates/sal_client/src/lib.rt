@@ -6,6 +6,7 @@
 //! | `Reader` | a schema with its patterns compiled |
 //! | `ReadersFault` | which version of which schema has a malformed pattern |
 //! | `ClientRun` | a client in its program: `next` does local steps up to a shared call, `make` makes that |
+//! | `look_at` | the value of a client's slot |
 //! | `Wish`, `RpcWish`, `NoteWish`, `MountWish` | a shared call as a value, which a client is ready to make |
 //! | `RunFault` | why a client stops at a shared call |
 //! | `play` | a script played in its order, on one thread |
@@ -54,4 +55,5 @@ pub use readers::{Readers, ReadersFault};
 pub use rpcs::{Answer, Ask, Invocation, RpcWish};
 pub use run::ClientRun;
 pub use simulation::{PlayFault, Played, play};
+pub use slots::look_at;
 pub use wish::{RunFault, Wish};

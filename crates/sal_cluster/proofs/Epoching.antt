@@ -1,26 +1,16 @@
--- An epoch begins if nothing is pending, and the newest commit has the number.
-use Rattle.std.proofs.Common.{◌≡◌, ℕ, ◌+◌, ◌-◌, ◌≤◌, ◌<◌, Bool, true, false, None, refl, arith}
-use Rattle.std.specs.Prelude.{nat_eq, nat_lt}
+-- The readers of domains.
+use Rattle.std.proofs.Common.{◌≡◌, ℕ, ◌<◌, true, List, ◌∷◌, length, ap, ◌∙◌, arith}
 use Rattle.std.proofs.lemmas.Bool.Decides.{nat_tests}
-use Rattle.sal_history.specs.History.{history, pending}
-use Rattle.sal_hub.specs.HubHistory.{HubHistory}
-use Rattle.sal_cluster.specs.Leaders.{epoch_fault, fault_by, number_of}
+use Rattle.std.proofs.lemmas.List.{length-map}
+use Rattle.sal_history.specs.World.{Domain}
+use Rattle.sal_schema.specs.declared.table.SchemaTable.{SchemaTable}
+use Rattle.sal_script.specs.Tables.{has_domain, versions_of}
 
-by_tests : (pends same : Bool) → fault_by pends same ≡ None → same ≡ true
-by_tests true same is = cc
-by_tests false true is = refl
-by_tests false false is = cc
+-- the readers of a world have its domains
+pub reader_there : (readers : List (List SchemaTable)) (world : List Domain) (n : ℕ) → readers ≡ versions_of world → n < length world → has_domain readers n ≡ true
+reader_there readers world n is inside =
+    let long = ap length is ∙ length-map world (λ (d : Domain). d.table ∷ d.upgrades) in
+    grind (arith, nat_tests, long)
 
-equal : (a b : ℕ) → nat_eq a b ≡ true → a ≡ b
-equal a b is = grind (arith, nat_tests)
-
-pub none_is_newest : (known : HubHistory) (base newest : ℕ) → epoch_fault known base newest ≡ None → newest ≡ number_of known base
-none_is_newest known base newest is =
-    equal newest (number_of known base) (by_tests (nat_lt 0 (pending (history known.world known.log))) (nat_eq newest (number_of known base)) is)
-
--- a number, counted from the base on
-pub counted : (n base k : ℕ) → base ≤ n → nat_eq (n - base) k ≡ nat_eq n (base + k)
-counted n base k low = grind (arith, nat_tests)
-
-pub below : (n base k : ℕ) → n < base → false ≡ nat_eq n (base + k)
-below n base k low = grind (arith, nat_tests)
+pub reader_among : (readers : List (List SchemaTable)) (count n : ℕ) → count ≡ length readers → n < count → has_domain readers n ≡ true
+reader_among readers count n many inside = grind (arith, nat_tests, many)

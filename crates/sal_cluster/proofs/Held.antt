@@ -19,11 +19,11 @@ exported P after (Ok bytes) is e = subst (λ (b : List ℕ). P (Ok b)) (same_byt
 exported P after (Err (TooLong number)) is e = cc
 exported P after (Err NoMemory) is e = cc
 
-sent : (known : HubHistory) (base k : ℕ) (after : List ℕ) → Sends known base (base + k) (Ok after) → ExportsOn (table_sent known) (committed known 0) (k + 1) (base + k + 1) (Ok after)
-sent known base k after (low, (told, is, e)) =
+sent : (known : HubHistory) (n base k : ℕ) (after : List ℕ) → Sends known n base (base + k) (Ok after) → ExportsOn (table_sent known n) (committed known n) (k + 1) (base + k + 1) (Ok after)
+sent known n base k after (low, (told, is, e)) =
     let next : base + k + 1 - base ≡ k + 1 = omega arith in
-    subst (λ (n : ℕ). ExportsOn (table_sent known) (committed known 0) n (base + k + 1) (Ok after)) next
-    (exported (ExportsOn (table_sent known) (committed known 0) (base + k + 1 - base) (base + k + 1)) after told is e)
+    subst (λ (m : ℕ). ExportsOn (table_sent known n) (committed known n) m (base + k + 1) (Ok after)) next
+    (exported (ExportsOn (table_sent known n) (committed known n) (base + k + 1 - base) (base + k + 1)) after told is e)
 
 pub held : SnapshotsAreFollowed → StandBysHoldTheLeadersTrees
-held law known base k all after inside closed first rest = law (table_sent known) (committed known 0) k (base + k) all after inside closed first (sent known base k after rest)
+held law known n base k all after inside closed first rest = law (table_sent known n) (committed known n) k (base + k) all after inside closed first (sent known n base k after rest)

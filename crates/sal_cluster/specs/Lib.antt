@@ -1,4 +1,5 @@
 pub mod Laws
 pub mod Leaders
 pub mod Looks
+pub mod Numbers
 pub mod StandBys

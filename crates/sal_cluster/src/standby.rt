@@ -1,52 +1,53 @@
-//! A stand-by: a follower of domain 0 of a script that can become the leader.
-ghost use Rattle.std.specs.Prelude.{◌≡◌, ◌<◌, ◌+◌, ◌^◌, true, IfOk, Some, length, map};
-ghost use Rattle.sal_json.specs.Patterns.{patterns_of};
-ghost use Rattle.sal_script.specs.Reading.{parts};
+//! A stand-by: followers of the domains of a script, that can become the leader.
+ghost use Rattle.std.specs.Prelude.{◌≡◌, ◌<◌, true, IfOk, length, map};
 ghost use Rattle.sal_cluster.specs.Looks.{Looks};
 ghost use Rattle.sal_script.specs.Tables.{last_among, last_in};
-ghost use Rattle.sal_client.specs.Lists.{begun_with};
-ghost use Rattle.sal_embed.specs.Opening.{IsBegun};
-ghost use Rattle.sal_follow.specs.Fed.{IsFedBy};
 ghost use Rattle.sal_follow.specs.Framed.{IsSnapshotAt};
 ghost use Rattle.sal_follow.specs.Laws.{trees_held};
 ghost use Rattle.sal_follow.specs.Stream.{fresh_at, rows_held};
-ghost use Rattle.sal_prepare.specs.Resumed.{are_of_version, resumed};
 ghost use Rattle.sal_prepare.specs.Scripted as spec;
-ghost use Rattle.sal_cluster.specs.StandBys.{KeepsUp, Leads, Takes, bare, grounded, opening_held, seen};
+ghost use Rattle.sal_cluster.specs.Leaders.{is_domain};
+ghost use Rattle.sal_cluster.specs.StandBys.{FeedsAt, Leads, bare, before_from, first_of, follower_at, grounded, seen};
 
+use crate::beside::Beside;
 use crate::leader::Leader;
-use crate::look::{LookFault, look_in_tree};
-use sal_embed::{Embedded, no_clients, no_order};
-use sal_follow::laws::places_count_bytes;
+use crate::leading::led;
+use crate::look::{LookFault, Place, look_in_tree, reader_of};
+use sal_embed::{no_clients, no_order};
 use sal_follow::{ExportFault, FollowFault, Follower};
-use sal_history::Opening;
-use sal_json::Patterns;
-use sal_prepare::resumed::{Ground, Resumed, ground_of};
+use sal_prepare::resumed::{Ground, ground_of};
 use sal_prepare::status::Status;
 use sal_schema::Schema;
-use sal_types::{Bytes, NoMemory, Store, Str};
+use sal_types::{Bytes, NoMemory, Str};
 use std::alloc::Global;
 use std::marker::Model;
 use std::sync::Arc;
 
-/// A follower, with what a broker over its trees needs.
+/// A follower of each domain, with what a broker over their trees needs.
 #[derive(Drop)]
 pub struct Standing {
-    pub(crate) follower: Follower,
+    pub(crate) followers: Vec<Beside>,
     pub(crate) ground: Ground,
 }
 
-/// A follower of domain 0 of a script by the last version of its schema, with what a broker over its trees needs. A contract sees the follower, and the
-/// script with its schemas.
+impl Standing {
+    /// The followers, by domain.
+    pub(crate) fn all(&self) -> &[Beside]
+        ensures { result.now ≡ self.now.followers.items }
+    {
+        &self.followers
+    }
+}
+
+/// Followers of the domains of a script, each by the last version of its schema, with what a broker over their trees needs. A contract sees the
+/// followers, and the script with its schemas.
 #[derive(Drop)]
 pub struct StandBy {
     standing: Standing,
-    // The number of the first frame and the bytes received are at most this.
-    fed: u64,
 }
 
 impl Model for StandBy {
-    ghost use Rattle.std.specs.Prelude.{◌≡◌};
+    ghost use Rattle.std.specs.Prelude.{◌≡◌, length};
     ghost use Rattle.sal_cluster.specs.declared.standby.Standing.{Standing as Seen};
     ghost use Rattle.sal_cluster.specs.contracts.standby.Standing as e;
 
@@ -54,19 +55,15 @@ impl Model for StandBy {
 
     ghost coded = { e.the_row.coded };
 
-    ghost use Rattle.sal_cluster.specs.Looks.{Looks};
-    ghost use Rattle.sal_script.specs.Tables.{last_among, last_in};
-    ghost use Rattle.sal_follow.specs.Fed.{IsFedBy};
-
     ghost view = { λ s. s.standing };
 
-    ghost invariant = { λ s. IsFedBy s.fed s.standing.follower × (s.standing.follower.schema ≡ last_in s.standing.ground.readers 0) };
+    ghost invariant = { λ s. length s.standing.followers.items ≡ length s.standing.ground.readers };
 }
 
 /// Why a stand-by does not lead.
 #[derive(Drop)]
 pub enum LeadFault {
-    /// No frame came yet.
+    /// No frame of the controller's own domain came yet.
     Empty,
     /// The script has no such version, or the trees are no trees of it.
     BadVersion,
@@ -75,78 +72,99 @@ pub enum LeadFault {
 }
 
 impl StandBy {
-    /// A stand-by of the broker of this script, before a stream that begins with the frame of this number; or the first fault of the script, which has
-    /// no clients and no order. Its opening trees are not read.
-    pub fn open(alloc: Global, script: &[u8], first: u64) -> Result<StandBy, Status>
+    /// A stand-by of the broker of this script; or the first fault of the script, which has no clients and no order. Its opening trees are not read.
+    /// The stream of each domain begins with the frame of the number that is given for it, of domain 0 first, and of number 0 if none is given.
+    pub fn open(alloc: Global, script: &[u8], firsts: &[u64]) -> Result<StandBy, Status>
         ensures ground { spec.Comes (λ it. seen it.ground) (grounded script.now) result }
-        ensures fresh { IfOk result (λ it. it.follower.held ≡ fresh_at first) }
-        ensures schema { IfOk result (λ it. it.follower.schema ≡ last_in it.ground.readers 0) }
+        ensures fresh { IfOk result (λ it. it.followers.items ≡ before_from firsts.now 0 (map last_among it.ground.readers)) }
     {
         let ground = bare_ground(alloc, script)?;
-        match before(alloc, &ground, first) {
-            Ok(follower) => Ok(StandBy {
-                standing: Standing { follower, ground },
-                fed: first,
+        match all_before(alloc, &ground, firsts) {
+            Ok(followers) => Ok(StandBy {
+                standing: Standing { followers, ground },
             }),
             Err(NoMemory) => Err(Status::NoMemory),
         }
     }
 
-    /// Takes the next piece of the stream. If memory runs out, nothing of it was taken.
-    pub fn feed(&mut self, piece: &[u8]) -> Result<(), FollowFault>
-        ensures taken { Takes piece.now self.old.follower self.new.follower result }
-        ensures leader { KeepsUp piece.now self.old.follower self.new.follower result }
+    /// Whether there is a domain of this number: 0 is the controller's own.
+    pub fn has_domain(&self, domain: u32) -> bool
+        ensures is { result ≡ is_domain domain (length self.now.followers.items) }
+        ensures inside { result ≡ true → domain < length self.now.followers.items }
+    {
+        let followers = self.standing.all();
+        if domain == 0 {
+            return true;
+        }
+        (domain as usize) < followers.len()
+    }
+
+    /// How many domains there are.
+    pub fn domains(&self) -> usize
+        ensures { result ≡ length self.now.followers.items }
+    {
+        self.standing.followers.len()
+    }
+
+    /// Takes the next piece of the domain's stream. If memory runs out, nothing of it was taken. After another fault it returns this fault from then on.
+    pub fn feed(&mut self, domain: u32, piece: &[u8]) -> Result<(), FollowFault>
+        requires { domain < length self.old.followers.items }
+        ensures feeds { FeedsAt self.old.followers.items self.new.followers.items domain piece.now result }
         ensures ground { self.new.ground ≡ self.old.ground }
     {
-        let Some(after) = self.fed.checked_add(piece.len() as u64) else {
-            return Err(FollowFault::NoMemory);
-        };
-        let fed = self.fed;
-        self.fed = after;
-        feed_behind(&mut self.standing.follower, fed, piece)
+        feed_at(&mut self.standing.followers, domain as usize, piece)
     }
 
-    /// The number of its last frame; none before the first one.
-    pub fn number(&self) -> Option<u64>
-        ensures { result ≡ self.now.follower.held.version }
+    /// The number of the domain's last frame; none before the first one.
+    pub fn number(&self, domain: u32) -> Option<u64>
+        requires { domain < length self.now.followers.items }
+        ensures { result ≡ (follower_at self.now.followers.items domain).held.version }
     {
-        self.standing.follower.version()
+        self.follower(domain).version()
     }
 
-    /// The frame of its commit with all rows; none before its first frame.
-    pub fn snapshot(&self) -> Option<Result<Bytes, ExportFault>>
-        ensures { IsSnapshotAt self.now.follower.schema self.now.follower.held.version (trees_held self.now.follower.held) result }
+    /// The frame of the domain's commit with all rows; none before its first frame.
+    pub fn snapshot(&self, domain: u32) -> Option<Result<Bytes, ExportFault>>
+        requires { domain < length self.now.followers.items }
+        ensures { IsSnapshotAt (follower_at self.now.followers.items domain).schema (follower_at self.now.followers.items domain).held.version (trees_held (follower_at self.now.followers.items domain).held) result }
     {
-        self.standing.follower.snapshot()
+        self.follower(domain).snapshot()
     }
 
-    /// The text of a read of the path in its tree.
-    pub fn look(&self, alloc: Global, store: Store, path: &[u8]) -> Result<Str, LookFault>
-        ensures { Looks (map last_among self.now.ground.readers) (last_in self.now.ground.readers 0) (rows_held self.now.follower.held store) path.now result }
+    // The domain's follower.
+    fn follower(&self, domain: u32) -> &Follower
+        requires { domain < length self.now.followers.items }
+        ensures { result.now ≡ follower_at self.now.followers.items domain }
     {
-        let Standing { follower, ground } = &self.standing;
+        self.standing.followers[domain as usize].follower()
+    }
+
+    /// The text of a read of the path in one of its trees.
+    pub fn look(&self, alloc: Global, place: Place, path: &[u8]) -> Result<Str, LookFault>
+        requires { place.domain < length self.now.followers.items }
+        ensures { Looks (map last_among self.now.ground.readers) (last_in self.now.ground.readers place.domain) place.domain (rows_held (follower_at self.now.followers.items place.domain).held place.store) path.now result }
+    {
+        let ground = &self.standing.ground;
+        let Place { domain, store } = place;
+        let reader = reader_of(&ground.readers, domain);
         look_in_tree(
             alloc,
-            ground.readers.own(),
+            domain,
+            reader,
             &ground.schemas,
-            follower.tree(store),
+            self.follower(domain).tree(store),
             path,
         )
     }
 
-    /// A leader that begins with its trees, by this version of the script's schema, and goes on with its number. An unfinished frame is left out. The
-    /// stand-by stays as it is.
+    /// A leader that begins with its trees, by this version of the script's schema, and goes on with its numbers. An unfinished frame is left out. A
+    /// device without a frame begins with the opening trees of the script. The stand-by stays as it is.
     pub fn lead(&self, alloc: Global, version: u32) -> Result<Leader, LeadFault>
-        ensures { Leads self.now.ground self.now.follower version result }
+        ensures { Leads self.now version result }
     {
-        match self.number() {
-            Some(base) => led(
-                alloc,
-                &self.standing.ground,
-                &self.standing.follower,
-                base,
-                version,
-            ),
+        let standing = &self.standing;
+        match self.number(0) {
+            Some(base) => led(alloc, standing, base, version),
             None => Err(LeadFault::Empty),
         }
     }
@@ -169,102 +187,52 @@ fn bare(alloc: Global, ground: &Ground) -> Result<(), Status>
     no_order(alloc, &ground.script)
 }
 
-// The leader of the follower's number.
-fn led(
+// A follower by each last version.
+fn all_before(alloc: Global, ground: &Ground, firsts: &[u64]) -> Result<Vec<Beside>, NoMemory>
+    ensures { IfOk result (λ it. it.items ≡ before_from firsts.now 0 (map last_among ground.now.readers)) }
+{
+    each_before(alloc, &ground.schemas, firsts)
+}
+
+// A follower by each of these schemas.
+fn each_before(
     alloc: Global,
-    ground: &Ground,
-    follower: &Follower,
-    base: u64,
-    version: u32,
-) -> Result<Leader, LeadFault>
-    requires { follower.now.held.version ≡ Some base }
-    ensures { Leads ground.now follower.now version result }
+    schemas: &[Arc<Schema>],
+    firsts: &[u64],
+) -> Result<Vec<Beside>, NoMemory>
+    ensures { IfOk result (λ it. it.items ≡ before_from firsts.now 0 (spec.tables_in schemas.now)) }
 {
-    let Ok(opening) = opening_of(follower) else {
-        return Err(LeadFault::Refused {
-            status: Status::NoMemory,
-        });
-    };
-    if !ground.fits(alloc, version, &opening.config, &opening.oper) {
-        return Err(LeadFault::BadVersion);
+    let mut followers = Vec::new(alloc);
+    for (domain, schema) in schemas.iter().enumerate() {
+        let one = before(alloc, schema, first_of(firsts, domain))?;
+        followers.push(one)?;
     }
-    match led_over(alloc, ground, version, opening) {
-        Ok(broker) => Ok(Leader {
-            broker,
-            base,
-            version,
-        }),
-        Err(status) => Err(LeadFault::Refused { status }),
+    Ok(followers)
+}
+
+// The number of the domain's first frame.
+fn first_of(firsts: &[u64], domain: usize) -> u64
+    ensures { result ≡ first_of firsts.now domain }
+{
+    if domain < firsts.len() {
+        return firsts[domain];
     }
+    0
 }
 
-// The broker over these trees.
-fn led_over(
-    alloc: Global,
-    ground: &Ground,
-    version: u32,
-    opening: Opening,
-) -> Result<Embedded, Status>
-    requires { are_of_version ground.now.readers version opening ≡ true }
-    ensures world { spec.Comes (λ it. it.hub.world) (resumed ground.now.script.rules (parts ground.now.script).devices (begun_with version ground.now.readers) opening) result }
-    ensures begun { IfOk result IsBegun }
+// A follower by this schema, which is shared.
+fn before(alloc: Global, schema: &Arc<Schema>, first: u64) -> Result<Beside, NoMemory>
+    ensures { IfOk result (λ f. f ≡ record { schema = schema.now.value; held = fresh_at first }) }
 {
-    let Resumed {
-        hub,
-        schemas,
-        readers,
-    } = ground.resume(alloc, version, opening)?;
-    Ok(Embedded::over(alloc, hub, schemas, readers, ground.script.checked_reads))
-}
-
-// The rows of its trees.
-fn opening_of(follower: &Follower) -> Result<Opening, NoMemory>
-    ensures { IfOk result (λ it. it ≡ opening_held follower.now) }
-{
-    let config = follower.rows(Store::Config)?;
-    let oper = follower.rows(Store::Oper)?;
-    Ok(Opening { config, oper })
-}
-
-// A follower by the last version of the schema of domain 0.
-fn before(alloc: Global, ground: &Ground, first: u64) -> Result<Follower, NoMemory>
-    ensures { IfOk result (λ f. f ≡ record { schema = last_in ground.now.readers 0; held = fresh_at first }) }
-{
-    let schema = last_schema(ground)?;
-    let patterns = patterns_by(alloc, &schema)?;
-    let follower = Follower::before(alloc, schema, patterns, first)?;
+    let schema = Arc::try_clone(schema)?;
+    let follower = Beside::before(alloc, schema, first)?;
     Ok(follower)
 }
 
-// The last version of the schema of domain 0, shared.
-fn last_schema(ground: &Ground) -> Result<Arc<Schema>, NoMemory>
-    ensures { IfOk result (λ schema. schema.value ≡ last_in ground.now.readers 0) }
+// Feeds a piece to the follower of this index.
+fn feed_at(followers: &mut Vec<Beside>, index: usize, piece: &[u8]) -> Result<(), FollowFault>
+    requires { index < length followers.old.items }
+    ensures { FeedsAt followers.old.items followers.new.items index piece.now result }
 {
-    let schema = Arc::try_clone(&ground.schemas[0])?;
-    Ok(schema)
-}
-
-// The patterns of a schema. They are well formed, since the readers have them; so only memory can run out.
-fn patterns_by(alloc: Global, schema: &Schema) -> Result<Patterns, NoMemory>
-    ensures { IfOk result (λ patterns. patterns ≡ patterns_of schema.now) }
-{
-    match Patterns::of(alloc, schema) {
-        Ok(patterns) => Ok(patterns),
-        Err(_) => Err(NoMemory),
-    }
-}
-
-// Feeds a piece to a follower whose first number and bytes are at most `fed`.
-fn feed_behind(follower: &mut Follower, fed: u64, piece: &[u8]) -> Result<(), FollowFault>
-    requires counted { IsFedBy fed follower.old }
-    requires few { fed + length piece.now < 2 ^ 64 }
-    ensures taken { Takes piece.now follower.old follower.new result }
-    ensures counted { IsFedBy (fed + length piece.now) follower.new }
-    ensures schema { follower.new.schema ≡ follower.old.schema }
-{
-    places_count_bytes();
-    match follower.feed(piece) {
-        Ok(_) => Ok(()),
-        Err(fault) => Err(fault),
-    }
+    followers[index].feed(piece)
 }

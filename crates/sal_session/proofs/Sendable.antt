@@ -28,6 +28,8 @@ use Rattle.sal_prepare.specs.contracts.resumed.Ground as Ground
 use Rattle.sal_embed.specs.contracts.caller.Caller as Caller
 use Rattle.sal_embed.specs.contracts.clients.Clients as Clients
 use Rattle.sal_embed.specs.contracts.embedded.Embedded as Embedded
+use Rattle.sal_cluster.specs.contracts.beside.Beside as Beside
+use Rattle.sal_cluster.proofs.bases.Bases.TheSendSync as Bases-here
 use Rattle.sal_cluster.specs.contracts.leader.Leader as Leader
 use Rattle.sal_cluster.specs.contracts.standby.Standing as Standing
 use Rattle.sal_cluster.specs.contracts.standby.StandBy as StandBy
@@ -55,7 +57,7 @@ Embedded-send : IsSend Embedded.the_row
 Embedded-send = search (Clients-field_send, Schema-send, Schema-sync, Readers-send, crosses, maps.crosses, sendable) depth 40 fits 20000
 
 Leader-field_send : IsSend (Leader.the_field).row
-Leader-field_send = search (Embedded-send, crosses, maps.crosses, sendable) depth 40 fits 20000
+Leader-field_send = search (Embedded-send, Bases-here.the_field_send, crosses, maps.crosses, sendable) depth 40 fits 20000
 
 -- ---- a stand-by
 
@@ -77,6 +79,9 @@ State-field_send = search (FollowFault-here.the_send, RowTree-send, crosses, map
 Follower-send : IsSend Follower.the_row
 Follower-send = search (Schema-send, Schema-sync, Patterns-send, Patterns-sync, State-field_send, crosses, maps.crosses, sendable) depth 40 fits 20000
 
+Beside-send : IsSend Beside.the_row
+Beside-send = search (Follower-send, crosses, maps.crosses, sendable) depth 40 fits 20000
+
 Value-field_send : IsSend (Value.the_field).row
 Value-field_send = search (Value-knot.crosses, crosses, maps.crosses, sendable) depth 40 fits 20000
 
@@ -97,7 +102,7 @@ Ground-field_send : IsSend (Ground.the_field).row
 Ground-field_send = search (Script-field_send, Schema-send, Schema-sync, Readers-send, Schemas-field_send, crosses, maps.crosses, sendable) depth 40 fits 20000
 
 Standing-field_send : IsSend (Standing.the_field).row
-Standing-field_send = search (Follower-send, Ground-field_send, crosses, maps.crosses, sendable) depth 40 fits 20000
+Standing-field_send = search (Beside-send, Ground-field_send, crosses, maps.crosses, sendable) depth 40 fits 20000
 
 StandBy-send : IsSend StandBy.the_row
 StandBy-send = search (Standing-field_send, crosses, maps.crosses, sendable) depth 40 fits 20000

@@ -9,7 +9,10 @@ use Rattle.sal_embed.specs.declared.fault.StepFault.{StepFault}
 use Rattle.sal_embed.specs.declared.fault.StepFault.TheVariants.{BadStep, BadClient, Full, Lost, NoMemory, Untold, Broken}
 use Rattle.sal_embed.specs.Opening.{IsBegun, opened, world_of}
 use Rattle.sal_embed.specs.Outcomes.{Reports, Steps}
+use Rattle.sal_embed.specs.Waiting.{Waits, bits}
+use Rattle.sal_embed.specs.declared.waiting.Waiting.{Waiting}
 use Rattle.sal_cluster.specs.declared.leader.Leader.{Leader}
+use Rattle.sal_cluster.specs.Leaders.{IsFirst}
 use Rattle.sal_session.specs.declared.role.Role.{Role}
 use Rattle.sal_session.specs.declared.role.Role.TheVariants.{Closed, Broker, StandBy}
 use Rattle.sal_session.specs.declared.session.Session.{Session}
@@ -47,16 +50,18 @@ is_open Closed = false
 is_open (Broker it) = true
 is_open (StandBy it) = true
 
--- a broker that begins a stream: its commit 0 has the number 0, by version 0
-abbrev pub first_leader : Clients → Leader
-first_leader it = record { broker = it; base = 0; version = 0 }
+-- a leader that begins its streams with this broker
+abbrev pub IsNew : Clients → Role → Type 0
+IsNew broker Closed = ⊥
+IsNew broker (StandBy it) = ⊥
+IsNew broker (Broker it) = (it.broker ≡ broker) × IsFirst it
 
 -- The broker of the bytes is open, with no step made; or none is, and the number and the text are those of the status: the text may be missing, if
 -- memory ran out.
 abbrev pub Opens : List ℕ → Role → List ℕ → ℕ → Type 0
 Opens bytes Closed text n = (status : Status) × (n ≡ status_number status) × IsStatusOf (world_of (opened bytes)) status × IsLine (line_of status) text
 Opens bytes (Broker it) text n =
-    (n ≡ 0) × (text ≡ []) × (world_of (opened bytes) ≡ Ok it.broker.hub.world) × IsBegun it.broker × (it ≡ first_leader it.broker)
+    (n ≡ 0) × (text ≡ []) × (world_of (opened bytes) ≡ Ok it.broker.hub.world) × IsBegun it.broker × IsFirst it
 Opens bytes (StandBy it) text n = ⊥
 
 -- a broken broker is dropped
@@ -97,3 +102,9 @@ ReportsIf (StandBy it) new n = Leaves 29 (StandBy it) new n
 ReportsIf (Broker old) new n =
     (result : Result (List ℕ) Wanting) × (it : Clients) × Reports old.broker it result
     × (new.role ≡ Broker (as_now old it)) × (n ≡ report_number result) × (told new.text ≡ text_of result)
+
+-- what waits for client c of a broker at this number of its slots, as bits; 0 without a broker
+abbrev pub WaitsIn : Role → ℕ → ℕ → ℕ → Type 0
+WaitsIn Closed c slot n = n ≡ 0
+WaitsIn (StandBy it) c slot n = n ≡ 0
+WaitsIn (Broker it) c slot n = (what : Waiting) × Waits it.broker c slot what × (n ≡ bits what)

@@ -1,5 +1,7 @@
 //! The calls of a broker whose commits become frames.
-ghost use Rattle.std.specs.Prelude.{◌≡◌};
+ghost use Rattle.std.specs.Prelude.{◌≡◌, ◌<◌, length};
+ghost use Rattle.sal_cluster.specs.Leaders.{number_of};
+ghost use Rattle.sal_cluster.specs.StandBys.{follower_at, number_held};
 ghost use Rattle.sal_prepare.specs.Statuses.{line_of};
 ghost use Rattle.sal_prepare.specs.declared.status.Status.TheVariants.{BadExport};
 ghost use Rattle.sal_session.specs.Streams as spec;
@@ -7,45 +9,46 @@ ghost use Rattle.sal_session.specs.Texts.{IsLine, told};
 
 use crate::answer::{Answer, bare};
 use crate::numbers::{
-    BAD_EXPORT, BAD_STEP, DONE, EMPTY, GONE, IS_STANDBY, NO_MEMORY, NOT_OPEN, epoch_number,
+    BAD_DOMAIN, BAD_EXPORT, BAD_STEP, DONE, EMPTY, GONE, IS_STANDBY, NO_MEMORY, NOT_OPEN,
+    epoch_number,
 };
 use crate::role::Role;
 use crate::session::Session;
 use crate::text::{Text, export_line, nothing};
-use sal_cluster::{FramesFault, Leader, LookFault, StandBy};
+use sal_cluster::{FramesFault, Leader, LookFault, Place, StandBy};
 use sal_follow::ExportFault;
 use sal_types::{Bytes, Store, Str};
 use std::alloc::Global;
 use std::mem;
 
 impl Session {
-    /// The text is the frames of the broker's commits with numbers above this one.
-    pub fn frames(&mut self, alloc: Global, above: u64) -> u32
-        ensures { spec.FramesIf self.old.role above self.new result }
+    /// The text is the frames of the domain's commits with numbers above this one, of a broker.
+    pub fn frames(&mut self, alloc: Global, domain: u32, above: u64) -> u32
+        ensures { spec.FramesIf self.old.role domain above self.new result }
     {
-        let answer = frames_of(alloc, &self.role, above);
+        let answer = frames_of(alloc, &self.role, domain, above);
         self.tell(answer)
     }
 
-    /// The text is the frame of the newest commit, with all rows.
-    pub fn snapshot(&mut self, alloc: Global) -> u32
-        ensures { spec.SnapshotsIf self.old.role self.new result }
+    /// The text is the frame of the domain's newest commit, with all rows.
+    pub fn snapshot(&mut self, alloc: Global, domain: u32) -> u32
+        ensures { spec.SnapshotsIf self.old.role domain self.new result }
     {
-        let answer = snapshot_of(alloc, &self.role);
+        let answer = snapshot_of(alloc, &self.role, domain);
         self.tell(answer)
     }
 
-    /// The text is that of a read in the newest tree of a store: 0 is the configuration, 1 the operational one.
-    pub fn look(&mut self, alloc: Global, store: u32, path: &[u8]) -> u32
-        ensures { spec.LooksIf self.old.role store path.now self.new result }
+    /// The text is that of a read in the newest tree of a domain's store: 0 is the configuration, 1 the operational one.
+    pub fn look(&mut self, alloc: Global, domain: u32, store: u32, path: &[u8]) -> u32
+        ensures { spec.LooksIf self.old.role domain store path.now self.new result }
     {
-        let answer = look_of(alloc, &self.role, store, path);
+        let answer = look_of(alloc, &self.role, domain, store, path);
         self.tell(answer)
     }
 
-    /// Begins the next epoch, if no submission is pending and the newest commit has this number.
-    pub fn epoch(&mut self, alloc: Global, newest: u64) -> u32
-        ensures { spec.EpochIf self.old.role newest self.new result }
+    /// Begins the next epoch, if no submission is pending and the newest commits of the first domains have these numbers.
+    pub fn epoch(&mut self, alloc: Global, newest: &[u64]) -> u32
+        ensures { spec.EpochIf self.old.role newest.now self.new result }
     {
         self.text = nothing(alloc);
         match mem::replace(&mut self.role, Role::Closed) {
@@ -72,14 +75,25 @@ impl Session {
         }
     }
 
-    /// The number of the newest commit, or of a stand-by's last frame; 0 if there is none.
-    pub fn number(&self) -> u64
-        ensures { result ≡ spec.number_in self.now.role }
+    /// The number of the domain's newest commit, or of a stand-by's last frame; 0 if there is none.
+    pub fn number(&self, domain: u32) -> u64
+        ensures { result ≡ spec.number_in self.now.role domain }
     {
         match &self.role {
             Role::Closed => 0,
-            Role::Broker { leader } => leader.number().unwrap_or(0),
-            Role::StandBy { standby } => standby.number().unwrap_or(0),
+            Role::Broker { leader } => leader_number(leader, domain),
+            Role::StandBy { standby } => standby_number(standby, domain),
+        }
+    }
+
+    /// How many domains there are, with the controller's own; 0 without a broker and a stand-by.
+    pub fn domains(&self) -> usize
+        ensures { result ≡ spec.domains_in self.now.role }
+    {
+        match &self.role {
+            Role::Closed => 0,
+            Role::Broker { leader } => leader.domains(),
+            Role::StandBy { standby } => standby.domains(),
         }
     }
 
@@ -105,14 +119,48 @@ impl Session {
     }
 }
 
-fn frames_of(alloc: Global, role: &Role, above: u64) -> Answer
-    ensures { spec.FramesOf role.now above result.number (told result.text) }
+fn leader_number(leader: &Leader, domain: u32) -> u64
+    ensures { result ≡ spec.leader_number (spec.leads_domain leader.now domain) leader.now domain }
+{
+    if leader.has_domain(domain) {
+        return short_number(leader, domain);
+    }
+    0
+}
+
+fn short_number(leader: &Leader, domain: u32) -> u64
+    requires { domain < length leader.now.broker.hub.world }
+    ensures { result ≡ spec.short (number_of leader.now.broker.hub leader.now.bases domain) }
+{
+    leader.number(domain).unwrap_or(0)
+}
+
+fn standby_number(standby: &StandBy, domain: u32) -> u64
+    ensures { result ≡ number_held (follower_at standby.now.followers.items domain) }
+{
+    if standby.has_domain(domain) {
+        return standby.number(domain).unwrap_or(0);
+    }
+    0
+}
+
+fn frames_of(alloc: Global, role: &Role, domain: u32, above: u64) -> Answer
+    ensures { spec.FramesOf role.now domain above result.number (told result.text) }
 {
     match role {
         Role::Closed => bare(alloc, NOT_OPEN),
         Role::StandBy { .. } => bare(alloc, IS_STANDBY),
-        Role::Broker { leader } => frames_told(alloc, leader.frames(alloc, above)),
+        Role::Broker { leader } => leader_frames(alloc, leader, domain, above),
     }
+}
+
+fn leader_frames(alloc: Global, leader: &Leader, domain: u32, above: u64) -> Answer
+    ensures { spec.InDomain (spec.leads_domain leader.now domain) (spec.LeaderFrames leader.now domain above) result.number (told result.text) }
+{
+    if leader.has_domain(domain) {
+        return frames_told(alloc, leader.frames(alloc, domain, above));
+    }
+    bare(alloc, BAD_DOMAIN)
 }
 
 fn frames_told(alloc: Global, made: Result<Bytes, FramesFault>) -> Answer
@@ -126,16 +174,40 @@ fn frames_told(alloc: Global, made: Result<Bytes, FramesFault>) -> Answer
     }
 }
 
-fn snapshot_of(alloc: Global, role: &Role) -> Answer
-    ensures { spec.SnapshotOf role.now result.number (told result.text) }
+fn snapshot_of(alloc: Global, role: &Role, domain: u32) -> Answer
+    ensures { spec.SnapshotOf role.now domain result.number (told result.text) }
 {
     match role {
         Role::Closed => bare(alloc, NOT_OPEN),
-        Role::Broker { leader } => export_told(alloc, leader.snapshot(alloc)),
-        Role::StandBy { standby } => match standby.snapshot() {
-            Some(made) => export_told(alloc, made),
-            None => bare(alloc, EMPTY),
-        },
+        Role::Broker { leader } => leader_snapshot(alloc, leader, domain),
+        Role::StandBy { standby } => standby_snapshot(alloc, standby, domain),
+    }
+}
+
+fn leader_snapshot(alloc: Global, leader: &Leader, domain: u32) -> Answer
+    ensures { spec.InDomain (spec.leads_domain leader.now domain) (spec.LeaderSnapshot leader.now domain) result.number (told result.text) }
+{
+    if leader.has_domain(domain) {
+        return export_told(alloc, leader.snapshot(alloc, domain));
+    }
+    bare(alloc, BAD_DOMAIN)
+}
+
+fn standby_snapshot(alloc: Global, standby: &StandBy, domain: u32) -> Answer
+    ensures { spec.InDomain (spec.follows_domain standby.now domain) (spec.StandBySnapshot (follower_at standby.now.followers.items domain)) result.number (told result.text) }
+{
+    if standby.has_domain(domain) {
+        return export_if(alloc, standby.snapshot(domain));
+    }
+    bare(alloc, BAD_DOMAIN)
+}
+
+fn export_if(alloc: Global, made: Option<Result<Bytes, ExportFault>>) -> Answer
+    ensures { spec.IsExportIf made result.number (told result.text) }
+{
+    match made {
+        Some(made) => export_told(alloc, made),
+        None => bare(alloc, EMPTY),
     }
 }
 
@@ -149,33 +221,60 @@ fn export_told(alloc: Global, made: Result<Bytes, ExportFault>) -> Answer
     }
 }
 
-fn look_of(alloc: Global, role: &Role, store: u32, path: &[u8]) -> Answer
-    ensures { spec.LookOf role.now store path.now result.number (told result.text) }
+fn look_of(alloc: Global, role: &Role, domain: u32, store: u32, path: &[u8]) -> Answer
+    ensures { spec.LookOf role.now domain store path.now result.number (told result.text) }
 {
     match role {
         Role::Closed => bare(alloc, NOT_OPEN),
-        Role::Broker { leader } => look_at_leader(alloc, leader, store, path),
-        Role::StandBy { standby } => match standby.number() {
-            Some(_) => look_at_standby(alloc, standby, store, path),
-            None => bare(alloc, EMPTY),
-        },
+        Role::Broker { leader } => look_at_leader(alloc, leader, domain, store, path),
+        Role::StandBy { standby } => look_at_standby(alloc, standby, domain, store, path),
     }
 }
 
-fn look_at_leader(alloc: Global, leader: &Leader, store: u32, path: &[u8]) -> Answer
-    ensures { spec.LeaderLooks leader.now store path.now result.number (told result.text) }
+fn look_at_leader(alloc: Global, leader: &Leader, domain: u32, store: u32, path: &[u8]) -> Answer
+    ensures { spec.InDomain (spec.leads_domain leader.now domain) (spec.LeaderLooks leader.now domain store path.now) result.number (told result.text) }
+{
+    if leader.has_domain(domain) {
+        return look_in_leader(alloc, leader, domain, store, path);
+    }
+    bare(alloc, BAD_DOMAIN)
+}
+
+fn look_in_leader(alloc: Global, leader: &Leader, domain: u32, store: u32, path: &[u8]) -> Answer
+    requires { domain < length leader.now.broker.hub.world }
+    ensures { spec.LeaderLooks leader.now domain store path.now result.number (told result.text) }
 {
     match store_of(store) {
-        Some(store) => look_told(alloc, leader.look(alloc, store, path)),
+        Some(store) => look_told(alloc, leader.look(alloc, Place { domain, store }, path)),
         None => bare(alloc, BAD_STEP),
     }
 }
 
-fn look_at_standby(alloc: Global, standby: &StandBy, store: u32, path: &[u8]) -> Answer
-    ensures { spec.StandByLooks standby.now store path.now result.number (told result.text) }
+fn look_at_standby(alloc: Global, standby: &StandBy, domain: u32, store: u32, path: &[u8]) -> Answer
+    ensures { spec.InDomain (spec.follows_domain standby.now domain) (spec.LooksIn standby.now domain store path.now) result.number (told result.text) }
+{
+    if standby.has_domain(domain) {
+        return look_in_standby(alloc, standby, domain, store, path);
+    }
+    bare(alloc, BAD_DOMAIN)
+}
+
+fn look_in_standby(alloc: Global, standby: &StandBy, domain: u32, store: u32, path: &[u8]) -> Answer
+    requires { domain < length standby.now.followers.items }
+    ensures { spec.LooksIn standby.now domain store path.now result.number (told result.text) }
+{
+    match standby.number(domain) {
+        Some(_) => look_once(alloc, standby, domain, store, path),
+        None => bare(alloc, EMPTY),
+    }
+}
+
+fn look_once(alloc: Global, standby: &StandBy, domain: u32, store: u32, path: &[u8]) -> Answer
+    requires { domain < length standby.now.followers.items }
+    ensures { spec.StandByLooks standby.now domain store path.now result.number (told result.text) }
 {
     match store_of(store) {
-        Some(store) => look_told(alloc, standby.look(alloc, store, path)),
+        Some(store) => look_told(alloc, standby.look(alloc, Place { domain, store }, path)),
         None => bare(alloc, BAD_STEP),
     }
 }
@@ -221,8 +320,8 @@ fn too_long(alloc: Global, number: u64) -> Answer
 }
 
 // The leader of the next epoch, or the same one with the number of why there is none.
-fn begun(alloc: Global, leader: Leader, newest: u64) -> (Leader, u32)
-    ensures { spec.Began leader newest result.0 result.1 }
+fn begun(alloc: Global, leader: Leader, newest: &[u64]) -> (Leader, u32)
+    ensures { spec.Began leader newest.now result.0 result.1 }
 {
     match leader.next_epoch(alloc, newest) {
         Ok(leader) => (leader, DONE),

@@ -6,7 +6,8 @@
 //! | `Session::open`, `step`, `report`, `reply` | opens a broker; a step; the report; the text |
 //! | `Session::frames`, `snapshot`, `epoch`, `left` | the broker's commits as frames; the next epoch; the entries that the log has left |
 //! | `Session::follow`, `feed`, `lead` | opens a stand-by; takes frames; becomes the broker |
-//! | `Session::look`, `number`, `version` | a read without a step; the number of the newest commit; the version of the schema |
+//! | `Session::waits` | what waits for a client, without a step |
+//! | `Session::look`, `number`, `domains`, `version` | a read without a step; the number of a newest commit; how many domains; the version of the schema |
 //! | `loose` | the same as a pointer, for a host that keeps it: its users prove nothing about the broker |
 //! | `DONE`, `NO_MEMORY`, .. | the numbers of the statuses |
 //!
@@ -29,8 +30,8 @@ mod standing;
 mod text;
 
 pub use numbers::{
-    BAD_CLIENT, BAD_EXPORT, BAD_STEP, BAD_STREAM, BAD_VERSION, BROKEN, DONE, EMPTY, FULL, GONE,
-    IS_OPEN, IS_STANDBY, LOST, NO_MEMORY, NOT_NEWEST, NOT_OPEN, PENDING, UNTOLD,
+    BAD_CLIENT, BAD_DOMAIN, BAD_EXPORT, BAD_STEP, BAD_STREAM, BAD_VERSION, BROKEN, DONE, EMPTY,
+    FULL, GONE, IS_OPEN, IS_STANDBY, LOST, NO_MEMORY, NOT_NEWEST, NOT_OPEN, PENDING, UNTOLD,
 };
 pub use role::Role;
 pub use session::Session;

@@ -46,11 +46,11 @@ pub fn report(session: Loose<Session, Global>, alloc: Global) -> (Loose<Session,
 pub fn follow(
     alloc: Global,
     script: &[u8],
-    first: u64,
+    firsts: &[u64],
 ) -> Result<(Loose<Session, Global>, u32), NoMemory>
-    ensures { IfOk result (λ it. streams.Follows script.now first it.0.value.role (told it.0.value.text) it.1) }
+    ensures { IfOk result (λ it. streams.Follows script.now firsts.now it.0.value.role (told it.0.value.text) it.1) }
 {
-    match Session::follow_boxed(alloc, script, first) {
+    match Session::follow_boxed(alloc, script, firsts) {
         Ok((session, status)) => Ok((Loose::of(session), status)),
         Err(NoMemory) => Err(NoMemory),
     }
@@ -60,12 +60,13 @@ pub fn follow(
 pub fn feed(
     session: Loose<Session, Global>,
     alloc: Global,
+    domain: u32,
     piece: &[u8],
 ) -> (Loose<Session, Global>, u32)
-    ensures { streams.FeedsIf session.value.role piece.now result.0.value result.1 }
+    ensures { streams.FeedsIf session.value.role domain piece.now result.0.value result.1 }
 {
     let mut session = session.into_box();
-    let status = session.feed(alloc, piece);
+    let status = session.feed(alloc, domain, piece);
     (Loose::of(session), status)
 }
 
@@ -86,21 +87,26 @@ pub fn lead(
 pub fn frames(
     session: Loose<Session, Global>,
     alloc: Global,
+    domain: u32,
     above: u64,
 ) -> (Loose<Session, Global>, u32)
-    ensures { streams.FramesIf session.value.role above result.0.value result.1 }
+    ensures { streams.FramesIf session.value.role domain above result.0.value result.1 }
 {
     let mut session = session.into_box();
-    let status = session.frames(alloc, above);
+    let status = session.frames(alloc, domain, above);
     (Loose::of(session), status)
 }
 
 /// `Session::snapshot`.
-pub fn snapshot(session: Loose<Session, Global>, alloc: Global) -> (Loose<Session, Global>, u32)
-    ensures { streams.SnapshotsIf session.value.role result.0.value result.1 }
+pub fn snapshot(
+    session: Loose<Session, Global>,
+    alloc: Global,
+    domain: u32,
+) -> (Loose<Session, Global>, u32)
+    ensures { streams.SnapshotsIf session.value.role domain result.0.value result.1 }
 {
     let mut session = session.into_box();
-    let status = session.snapshot(alloc);
+    let status = session.snapshot(alloc, domain);
     (Loose::of(session), status)
 }
 
@@ -108,9 +114,9 @@ pub fn snapshot(session: Loose<Session, Global>, alloc: Global) -> (Loose<Sessio
 pub fn epoch(
     session: Loose<Session, Global>,
     alloc: Global,
-    newest: u64,
+    newest: &[u64],
 ) -> (Loose<Session, Global>, u32)
-    ensures { streams.EpochIf session.value.role newest result.0.value result.1 }
+    ensures { streams.EpochIf session.value.role newest.now result.0.value result.1 }
 {
     let mut session = session.into_box();
     let status = session.epoch(alloc, newest);
@@ -121,24 +127,49 @@ pub fn epoch(
 pub fn look(
     session: Loose<Session, Global>,
     alloc: Global,
+    domain: u32,
     store: u32,
     path: &[u8],
 ) -> (Loose<Session, Global>, u32)
-    ensures { streams.LooksIf session.value.role store path.now result.0.value result.1 }
+    ensures { streams.LooksIf session.value.role domain store path.now result.0.value result.1 }
 {
     let mut session = session.into_box();
-    let status = session.look(alloc, store, path);
+    let status = session.look(alloc, domain, store, path);
     (Loose::of(session), status)
 }
 
 /// `Session::number`.
-pub fn number(session: Loose<Session, Global>) -> (Loose<Session, Global>, u64)
-    ensures number { result.1 ≡ streams.number_in session.value.role }
+pub fn number(session: Loose<Session, Global>, domain: u32) -> (Loose<Session, Global>, u64)
+    ensures number { result.1 ≡ streams.number_in session.value.role domain }
     ensures same { result.0.value ≡ session.value }
 {
     let session = session.into_box();
-    let number = session.number();
+    let number = session.number(domain);
     (Loose::of(session), number)
+}
+
+/// `Session::domains`.
+pub fn domains(session: Loose<Session, Global>) -> (Loose<Session, Global>, usize)
+    ensures number { result.1 ≡ streams.domains_in session.value.role }
+    ensures same { result.0.value ≡ session.value }
+{
+    let session = session.into_box();
+    let number = session.domains();
+    (Loose::of(session), number)
+}
+
+/// `Session::waits`.
+pub fn waits(
+    session: Loose<Session, Global>,
+    client: u32,
+    slot: u8,
+) -> (Loose<Session, Global>, u32)
+    ensures bits { spec.WaitsIn session.value.role client slot result.1 }
+    ensures same { result.0.value ≡ session.value }
+{
+    let session = session.into_box();
+    let bits = session.waits(client, slot);
+    (Loose::of(session), bits)
 }
 
 /// `Session::version`.

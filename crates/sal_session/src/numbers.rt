@@ -42,6 +42,8 @@ pub const NOT_NEWEST: u32 = 32;
 pub const EMPTY: u32 = 33;
 /// The script has no such version, or the trees are no trees of it.
 pub const BAD_VERSION: u32 = 34;
+/// There is no domain of this number.
+pub const BAD_DOMAIN: u32 = 35;
 
 /// The number of a step's fault.
 pub(crate) fn number_of(fault: StepFault) -> u32

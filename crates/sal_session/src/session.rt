@@ -2,7 +2,8 @@
 ghost use Rattle.std.specs.Prelude.{◌≡◌, [], IfOk};
 ghost use Rattle.sal_session.specs.Sessions as spec;
 ghost use Rattle.sal_session.specs.Texts.{IsLine, told};
-ghost use Rattle.sal_session.specs.declared.role.Role.TheVariants.{Broker, Closed};
+ghost use Rattle.sal_session.specs.Sessions.{IsNew};
+ghost use Rattle.sal_session.specs.declared.role.Role.TheVariants.{Closed};
 ghost use Rattle.sal_prepare.specs.Statuses.{line_of};
 
 use crate::numbers::{BROKEN, DONE, IS_STANDBY, NO_MEMORY, NOT_OPEN, number_of};
@@ -27,7 +28,7 @@ impl Session {
         ensures { spec.Opens script.now result.0.role (told result.0.text) result.1 }
     {
         match Embedded::open(alloc, script) {
-            Ok(broker) => (with(broker, alloc), DONE),
+            Ok(broker) => (begun_with(broker, alloc), DONE),
             Err(status) => (without(alloc, &status), u32::from(status.number())),
         }
     }
@@ -75,6 +76,17 @@ impl Session {
         }
     }
 
+    /// What waits for a broker's client at this number of its slots, as the sum of 1 for a request, 2 for notifications, 4 for an answer, 8 for a
+    /// decided submission and 16 for changes; 0 without a broker.
+    pub fn waits(&self, client: u32, slot: u8) -> u32
+        ensures { spec.WaitsIn self.now.role client slot result }
+    {
+        match &self.role {
+            Role::Broker { leader } => leader.broker.waits(client, slot).bits(),
+            Role::Closed | Role::StandBy { .. } => 0,
+        }
+    }
+
     // The number of a fault. A broken broker is dropped.
     fn fail(&mut self, fault: StepFault) -> u32
         ensures { spec.Fails fault self.old self.new result }
@@ -105,15 +117,11 @@ impl Session {
     }
 }
 
-fn with(broker: Embedded, alloc: Global) -> Session
-    ensures role { result.role ≡ Broker (record { broker = broker; base = 0; version = 0 }) }
+fn begun_with(broker: Embedded, alloc: Global) -> Session
+    ensures role { IsNew broker result.role }
     ensures text { told result.text ≡ [] }
 {
-    let leader = Leader {
-        broker,
-        base: 0,
-        version: 0,
-    };
+    let leader = Leader::first(broker);
     Session {
         role: Role::Broker { leader },
         text: nothing(alloc),

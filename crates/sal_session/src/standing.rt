@@ -1,11 +1,13 @@
 //! The calls of a stand-by.
-ghost use Rattle.std.specs.Prelude.{◌≡◌, [], IfOk};
+ghost use Rattle.std.specs.Prelude.{◌≡◌, ◌<◌, [], IfOk, length};
 ghost use Rattle.sal_session.specs.declared.role.Role.TheVariants.{StandBy as Waits};
 ghost use Rattle.sal_session.specs.Streams as spec;
 ghost use Rattle.sal_session.specs.Texts.{IsLine, feed_line, told};
 
 use crate::answer::{Answer, bare};
-use crate::numbers::{BAD_STREAM, BAD_VERSION, DONE, EMPTY, IS_OPEN, NO_MEMORY, NOT_OPEN};
+use crate::numbers::{
+    BAD_DOMAIN, BAD_STREAM, BAD_VERSION, DONE, EMPTY, IS_OPEN, NO_MEMORY, NOT_OPEN,
+};
 use crate::role::Role;
 use crate::session::{Session, without};
 use crate::text::{line_of, nothing, stream_line};
@@ -16,12 +18,12 @@ use sal_types::NoMemory;
 use std::alloc::Global;
 
 impl Session {
-    /// Opens a stand-by of the broker of this script, before a stream that begins with the frame of this number. The text is the line of the
-    /// script's fault.
-    pub fn follow(alloc: Global, script: &[u8], first: u64) -> (Session, u32)
-        ensures { spec.Follows script.now first result.0.role (told result.0.text) result.1 }
+    /// Opens a stand-by of the broker of this script, before streams that begin with the frames of these numbers, of domain 0 first; of number 0 where
+    /// none is given. The text is the line of the script's fault.
+    pub fn follow(alloc: Global, script: &[u8], firsts: &[u64]) -> (Session, u32)
+        ensures { spec.Follows script.now firsts.now result.0.role (told result.0.text) result.1 }
     {
-        match StandBy::open(alloc, script, first) {
+        match StandBy::open(alloc, script, firsts) {
             Ok(standby) => (waiting(alloc, standby), DONE),
             Err(status) => (without(alloc, &status), u32::from(status.number())),
         }
@@ -31,32 +33,29 @@ impl Session {
     pub fn follow_boxed(
         alloc: Global,
         script: &[u8],
-        first: u64,
+        firsts: &[u64],
     ) -> Result<(Box<Session>, u32), NoMemory>
-        ensures { IfOk result (λ it. spec.Follows script.now first it.0.value.role (told it.0.value.text) it.1) }
+        ensures { IfOk result (λ it. spec.Follows script.now firsts.now it.0.value.role (told it.0.value.text) it.1) }
     {
-        let (session, status) = Session::follow(alloc, script, first);
+        let (session, status) = Session::follow(alloc, script, firsts);
         match Box::new(alloc, session) {
             Ok(session) => Ok((session, status)),
             Err(_) => Err(NoMemory),
         }
     }
 
-    /// The stand-by takes the next piece of its stream. The text is the line of the stream's fault.
-    pub fn feed(&mut self, alloc: Global, piece: &[u8]) -> u32
-        ensures { spec.FeedsIf self.old.role piece.now self.new result }
+    /// The stand-by takes the next piece of the domain's stream. The text is the line of the stream's fault.
+    pub fn feed(&mut self, alloc: Global, domain: u32, piece: &[u8]) -> u32
+        ensures { spec.FeedsIf self.old.role domain piece.now self.new result }
     {
         self.text = nothing(alloc);
         match &mut self.role {
             Role::Closed => NOT_OPEN,
             Role::Broker { .. } => IS_OPEN,
-            Role::StandBy { standby } => match standby.feed(piece) {
-                Ok(()) => DONE,
-                Err(fault) => {
-                    let answer = feed_told(alloc, fault);
-                    self.tell(answer)
-                }
-            },
+            Role::StandBy { standby } => {
+                let answer = fed(alloc, standby, domain, piece);
+                self.tell(answer)
+            }
         }
     }
 
@@ -82,6 +81,26 @@ fn waiting(alloc: Global, standby: StandBy) -> Session
     Session {
         role: Role::StandBy { standby },
         text: nothing(alloc),
+    }
+}
+
+// Feeds the domain's follower, if there is one.
+fn fed(alloc: Global, standby: &mut StandBy, domain: u32, piece: &[u8]) -> Answer
+    ensures { spec.Fed (spec.follows_domain standby.old domain) standby.old domain piece.now standby.new result.number (told result.text) }
+{
+    if standby.has_domain(domain) {
+        return fed_one(alloc, standby, domain, piece);
+    }
+    bare(alloc, BAD_DOMAIN)
+}
+
+fn fed_one(alloc: Global, standby: &mut StandBy, domain: u32, piece: &[u8]) -> Answer
+    requires { domain < length standby.old.followers.items }
+    ensures { spec.FedOne standby.old domain piece.now standby.new result.number (told result.text) }
+{
+    match standby.feed(domain, piece) {
+        Ok(()) => bare(alloc, DONE),
+        Err(fault) => feed_told(alloc, fault),
     }
 }
 

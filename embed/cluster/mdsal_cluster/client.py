@@ -1,8 +1,9 @@
 """A client of the cluster: it finds the leader, and says exactly what is known after a takeover.
 
-    python3 -m mdsal_cluster.client ADDRESSES status | get PATH | put PATH JSON | delete PATH
+    python3 -m mdsal_cluster.client ADDRESSES status | get PATH | put PATH JSON | delete PATH | renew FILE
 
-ADDRESSES are HOST:PORT of some nodes, with commas. `get` is linearizable; `put` and `delete` are transactions in the configuration.
+ADDRESSES are HOST:PORT of some nodes, with commas. `get` is linearizable; `put` and `delete` are transactions in the configuration; `renew` begins the
+next epoch by the script of a file, which has more upgrades or devices.
 """
 from __future__ import annotations
 
@@ -37,11 +38,17 @@ class Ended(Exception):
 
 @dataclass(frozen=True, slots=True)
 class Answer:
-    """Replies, as texts; all of them are durable. Commits in them count from `base`; `number` is the commit index of the answer."""
+    """Replies, as texts; all of them are durable. Commits of a domain in them count from its number in `bases`; `number` is that of the newest commit of
+    domain 0 at the answer."""
 
     replies: list[str]
-    base: int
+    bases: list[int]
     number: int
+
+    @property
+    def base(self) -> int:
+        """The number from which commits of domain 0 count."""
+        return self.bases[0]
 
 
 def replies_of(texts: Sequence[str]) -> list[Reply]:
@@ -73,19 +80,24 @@ class Client:
         era = {"era": self._era} if goes_on else {}
         it = self._led({"steps": list(steps), **era}, may_repeat=False, goes_on=goes_on)
         self._era = it["era"]
-        return Answer(it["replies"], it["base"], it["number"])
+        return Answer(it["replies"], it["bases"], it["number"])
 
-    def look(self, store: str, path: str) -> tuple[Any, int]:
-        """Returns what is at the path (`None` is nothing), and the number of the commit at which it is so: linearizable."""
-        it = self._led({"look": [store, path]}, may_repeat=True)
+    def look(self, store: str, path: str, domain: int = 0) -> tuple[Any, int]:
+        """Returns what is at the path (`None` is nothing), and the number of the domain's commit at which it is so: linearizable."""
+        it = self._led({"look": [store, path, domain]}, may_repeat=True)
         return it["value"], it["number"]
 
-    def update(self, function: Callable[[Transaction], Kept]) -> Kept:
-        """Calls the function with a transaction, and commits it; begins again after a conflict or a takeover. Raises `NotCommitted` if a rule refuses
-        it, and `Unanswered` if the commit has no answer."""
+    def renew(self, script: Any) -> int:
+        """Begins the next epoch by another script, which has more upgrades behind those of the present one, or more devices behind its devices: on all
+        nodes, with the trees of all domains. Returns how many scripts went before it. Raises `Refused` if it does not fit, `Unanswered` as `update`."""
+        return self._led({"renew": script}, may_repeat=False)["script"]
+
+    def update(self, function: Callable[[Transaction], Kept], domain: int = 0) -> Kept:
+        """Calls the function with a transaction of the domain, and commits it; begins again after a conflict or a takeover. Raises `NotCommitted` if a
+        rule refuses it, and `Unanswered` if the commit has no answer."""
         while True:
             try:
-                transaction = Transaction(self)
+                transaction = Transaction(self, domain)
                 kept = function(transaction)
                 outcome = transaction.commit()
             except Ended:
@@ -140,9 +152,9 @@ class Client:
 class Transaction:
     """A transaction of `Client.update`, in slot 0: reads are answered by the leader, writes are kept until the commit."""
 
-    def __init__(self, client: Client):
+    def __init__(self, client: Client, domain: int = 0):
         self.client, self.writes = client, []
-        self._steps([["begin", 0, 0, "rw"]], goes_on=False)
+        self._steps([["begin", 0, domain, "rw"]], goes_on=False)
 
     def _steps(self, steps: list[Any], goes_on: bool = True) -> list[Reply]:
         """Without an answer nothing counts: a transaction that was not submitted ends with its leader."""
@@ -190,10 +202,10 @@ def asked(address: str, request: dict[str, Any], timeout: float = 2.0) -> dict[s
         return None
 
 
-def look_at(address: str, store: str, path: str, least: int = 0) -> tuple[Any, int] | None:
-    """Returns what is at the path in the trees of one node, and the number of their commit: at least this one, but perhaps an old one. Or nothing,
-    if the node is behind or gone."""
-    it = asked(address, {"look": [store, path], "min": least})
+def look_at(address: str, store: str, path: str, least: int = 0, domain: int = 0) -> tuple[Any, int] | None:
+    """Returns what is at the path in the trees of one node, and the number of their domain's commit: at least this one, but perhaps an old one. Or
+    nothing, if the node is behind or gone."""
+    it = asked(address, {"look": [store, path, domain], "min": least})
     return (it["value"], it["number"]) if it and "value" in it else None
 
 
@@ -210,6 +222,9 @@ def main(words: list[str]) -> int:
         client.update(lambda it: it.put("config", rest[0], json.loads(rest[1])))
     elif command == "delete":
         client.update(lambda it: it.delete("config", rest[0]))
+    elif command == "renew":
+        with open(rest[0], encoding="utf-8") as file:
+            print(client.renew(file.read()))
     return 0
 
 

@@ -7,6 +7,7 @@ its steps: so no read is stale.
 """
 from __future__ import annotations
 
+import json
 import threading
 from dataclasses import dataclass, field
 from typing import Any
@@ -50,24 +51,41 @@ class Made:
 
 
 @dataclass(frozen=True)
-class Batch:
-    """What was made since the last append: the requests, the frames, and the tail with them."""
+class Renewal:
+    """Another script, with a snapshot of each domain by it, and the tail after it."""
 
-    made: list[Made]
-    frames: bytes
+    script: bytes
+    frames: list[bytes]
     tail: Tail
 
 
-class Leader:
-    """Leads in one term, until `Fenced`. `epoch` is the number of shared calls after which the next epoch begins."""
+@dataclass(frozen=True)
+class Batch:
+    """What was made since the last append: the requests, the frames of each domain, and the tail with them; and another script, if one begins."""
 
-    def __init__(self, log: Log, term: int, broker: mdsal.Broker, epoch: int):
+    made: list[Made]
+    frames: list[bytes]
+    tail: Tail
+    renewal: Renewal | None = None
+
+
+def text_of(script: Any) -> bytes:
+    """Returns the text of a script."""
+    return script.encode() if isinstance(script, str) else json.dumps(script).encode()
+
+
+class Leader:
+    """Leads in one term, until `Fenced`. `epoch` is the number of shared calls after which the next epoch begins, `script` the number of the script."""
+
+    def __init__(self, log: Log, term: int, broker: mdsal.Broker, epoch: int, script: int = 0):
         self.log, self.term, self.broker, self.epoch = log, term, broker, epoch
-        self.tail = Tail(broker.number, broker.version)
-        self.era, self.base, self.room, self.clients = [term, 0], broker.number, broker.left, OWN
+        self.script = script
+        self.tail = self._tail()
+        self.era, self.bases, self.room, self.clients = [term, 0], self.tail.numbers, broker.left, OWN
         self.is_over = False
         self._made: list[Made] = []
-        self._under_way = Batch([], b"", self.tail)
+        self._renewals: list[tuple[Made, bytes]] = []
+        self._under_way = Batch([], [], self.tail)
         self._lock = threading.Condition()
 
     # ---- the clients' threads
@@ -77,8 +95,12 @@ class Leader:
         with self._lock:
             if self.is_over:
                 raise NotLeading
-            made = self.waiting(self._look(request) if "look" in request else self._steps(session, request))
-            self._made.append(made)
+            if "renew" in request:
+                made = Made({})
+                self._renewals.append((made, text_of(request["renew"])))
+            else:
+                made = self.waiting(self._look(request) if "look" in request else self._steps(session, request))
+                self._made.append(made)
             self._lock.notify()
         made.done.wait()
         if not made.is_durable:
@@ -90,8 +112,9 @@ class Leader:
         return Made(answer)
 
     def _look(self, request: dict[str, Any]) -> dict[str, Any]:
-        value = self.broker.look(*request["look"])
-        return {"value": value, "number": self.broker.number}
+        store, path, *domain = request["look"]
+        value = self.broker.look(store, path, *domain)
+        return {"value": value, "number": self.broker.number_of(*domain or [0])}
 
     def _steps(self, session: Session, request: dict[str, Any]) -> dict[str, Any]:
         """Makes steps in turn. A request that names an epoch belongs to it: its slots, listeners and mounts are those of that epoch."""
@@ -101,7 +124,7 @@ class Leader:
             self.clients += 1
             session.era, session.client = self.era, self.clients
         replies = [self._step(session.client, it) for it in request["steps"]]
-        return {"replies": replies, "base": self.base, "era": self.era}
+        return {"replies": replies, "bases": self.bases, "era": self.era}
 
     def _step(self, client: int, step: Any) -> str:
         """Returns the text of a reply; `error NAME` if there is none. The steps before and after it are made all the same."""
@@ -127,35 +150,61 @@ class Leader:
         if batch.tail > self.tail:
             self.log.append(self.term, self.tail, batch.tail, batch.frames)
             self.tail = batch.tail
-        else:
+        elif not batch.renewal:
             self.log.confirm(self.term)
+        if batch.renewal:
+            self.log.renew(self.term, self.tail, batch.renewal.script, batch.renewal.frames, batch.renewal.tail)
+            self.tail = batch.renewal.tail
 
     @staticmethod
     def _tell(batch: Batch) -> None:
         for it in batch.made:
-            it.answer.setdefault("number", batch.tail.number)
+            it.answer.setdefault("number", batch.tail.numbers[0])
             it.is_durable = True
             it.done.set()
+
+    def _tail(self) -> Tail:
+        return Tail(tuple(self.broker.numbers), self.broker.version, self.script)
 
     def _taken(self) -> Batch:
         """Waits for requests, for a while, and takes them with the frames of all commits so far. Begins the next epoch then, if it is due."""
         with self._lock:
-            if not self._made:
+            if not self._made and not self._renewals:
                 self._lock.wait(IDLE)
-            is_due = self.room - self.broker.left >= self.epoch or self.clients >= LAST_CLIENT
+            is_due = bool(self._renewals) or self.room - self.broker.left >= self.epoch or self.clients >= LAST_CLIENT
             while is_due and self.broker.step(OWN, ["pump"]).startswith("decided "):
                 pass
-            number, version, frames = self.broker.number, self.broker.version, self.broker.frames(self.tail.number)
-            if is_due:
-                self.broker.epoch(number)
-                self.era, self.base, self.room, self.clients = [self.term, self.era[1] + 1], number, self.broker.left, OWN
+            tail = self._tail()
+            frames = [self.broker.frames(above, domain) for domain, above in enumerate(self.tail.numbers)]
+            renewal = self._next_epoch(tail) if is_due else None
             made, self._made = self._made, []
-        return Batch(made, frames, Tail(number, version))
+        return Batch(made, frames, tail, renewal)
+
+    def _next_epoch(self, tail: Tail) -> Renewal | None:
+        """Begins the next epoch; with another script, if there is one that is not refused."""
+        renewal = self._renewed(tail) if self._renewals else None
+        if not renewal:
+            self.broker.epoch(tail.numbers)
+        self.era, self.bases, self.room, self.clients = [self.term, self.era[1] + 1], tuple(self.broker.numbers), self.broker.left, OWN
+        return renewal
+
+    def _renewed(self, tail: Tail) -> Renewal | None:
+        """Goes on by the next one of the other scripts, unless it is refused."""
+        made, script = self._renewals.pop(0)
+        self._made.append(made)
+        try:
+            self.broker = self.broker.renew(script, tail.numbers)
+        except (mdsal.Error, MemoryError) as why:
+            made.answer["refused"] = f"{type(why).__name__}: {why}"
+            return None
+        self.script += 1
+        made.answer["script"] = self.script
+        return Renewal(script, [self.broker.snapshot(it) for it in range(self.broker.domains)], self._tail())
 
     def _end(self) -> None:
         """What was not appended is dropped, and who waits for it gets no answer."""
         with self._lock:
             self.is_over = True
             self.broker.close()
-        for it in (*self._under_way.made, *self._made):
+        for it in (*self._under_way.made, *self._made, *(made for made, _ in self._renewals)):
             it.done.set()

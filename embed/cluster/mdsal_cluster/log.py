@@ -3,13 +3,16 @@
 Keys, below a prefix:
 
     leader            {"name", "address"}, with the lease of the leader. It is written once for each term, and its revision is the term.
-    tail              "NUMBER VERSION": the number of the last frame (the commit index), and the version of the schema after it
+    tail              "N0,N1,.. VERSION SCRIPT": the numbers of the last frames of all domains, the version of the schema after them, and which script
     by                the term of the last append: for an audit alone
-    script            the SHA-256 of the script that the nodes share
-    log/NUMBER        the frames of one append, NUMBER that of the last one; or "parts TERM COUNT", if they are longer than PART
-    part/NUMBER/TERM/I  their parts then
-    snap              {"number", "parts", "sha256"} of the newest snapshot: frames with all rows
-    snap/NUMBER/I     its parts
+    log/INDEX         the frames of one append, by domain; or "parts TERM COUNT", if they are longer than PART; or "script", where another one begins
+    part/INDEX/TERM/I their parts then
+    snap              {"index", "value", "scripts"} of the newest snapshot, a frame with all rows for each domain; and of the scripts so far, the last of
+                      which it goes by: each {"at", "parts", "sha256"}
+    snap/INDEX/AT/I   the parts of a snapshot; AT is a word of its own for each that was begun
+    script/AT/I       the parts of a script
+
+The commit index of a tail is the sum of its numbers and of its script's: each commit and each new script makes it greater by 1.
 
 Safety rests on the two comparisons of each append (`fences`): `leader` has the revision of my term, and `tail` is what my frames follow. An older
 term cannot append once a newer one was written, whatever it believes; leases and clocks only say when to try.
@@ -17,7 +20,9 @@ term cannot append once a newer one was written, whatever it believes; leases an
 from __future__ import annotations
 
 import hashlib
+import itertools
 import json
+import secrets
 import time
 from collections.abc import Iterator, Sequence
 from dataclasses import dataclass
@@ -28,6 +33,7 @@ from .etcd import Answer, Etcd, Json, Pair, Refused, Unknown, delete, end_of, ge
 PART = 250_000  # bytes of a value: etcd refuses requests above 1.5 MB, and long ones delay all others
 PAGE = 50  # entries of one read
 PAUSE = 0.02  # seconds between tries without an answer
+SCRIPT = b"script"  # the value of an entry where another script begins
 Kept = TypeVar("Kept")
 
 
@@ -50,27 +56,62 @@ class Holder:
 
 @dataclass(frozen=True, slots=True, order=True)
 class Tail:
-    """The number of the last frame, and the version of the schema after it. Each append makes one of them greater."""
+    """The numbers of the last frames of all domains, domain 0 first, the version of the schema after them, and the number of the script. Each append makes
+    one of them greater, and none less."""
 
-    number: int
-    version: int
+    numbers: tuple[int, ...]
+    version: int = 0
+    script: int = 0
+
+    @property
+    def index(self) -> int:
+        """The commit index."""
+        return sum(self.numbers) + self.script
 
     def __str__(self) -> str:
-        return f"{self.number} {self.version}"
+        return f"{','.join(map(str, self.numbers))} {self.version} {self.script}"
 
 
 @dataclass(frozen=True, slots=True)
 class Start:
-    """What a follower begins with: a snapshot, at a revision of etcd."""
+    """What a follower begins with: a snapshot of each domain, and the text and number of the script that it goes by, at a revision of etcd."""
 
-    number: int
-    frames: bytes
+    index: int
+    frames: list[bytes]
+    text: bytes
+    script: int
     revision: int
 
 
 def tail_of(pair: Pair) -> Tail:
-    number, version = pair.value.split()
-    return Tail(int(number), int(version))
+    numbers, version, script = pair.value.decode().split()
+    return Tail(tuple(map(int, numbers.split(","))), int(version), int(script))
+
+
+def joined(frames: Sequence[bytes]) -> bytes:
+    """Returns the frames of all domains as one value: a line of their lengths, and they."""
+    return b" ".join(b"%d" % len(it) for it in frames) + b"\n" + b"".join(frames)
+
+
+def split(value: bytes) -> list[bytes]:
+    """Returns the frames of each domain."""
+    head, _, rest = value.partition(b"\n")
+    ends = list(itertools.accumulate(map(int, head.split())))
+    return [rest[first:end] for first, end in zip([0, *ends], ends)]
+
+
+def digest_of(data: bytes) -> str:
+    return hashlib.sha256(data).hexdigest()
+
+
+def snap_of(index: int, value: Json | None, scripts: Sequence[Json | None]) -> str:
+    """Returns the name of a snapshot."""
+    return json.dumps({"index": index, "value": value, "scripts": list(scripts)})
+
+
+def index_of(pair: Pair) -> int:
+    """Returns the commit index of an entry."""
+    return int(pair.key.rsplit("/", 1)[1])
 
 
 def parts_of(data: bytes) -> list[bytes]:
@@ -87,24 +128,24 @@ def until_answered(request: Callable[[], Kept]) -> Kept:
 
 
 class Log:
-    """The log below a prefix, by a connection of its own: for one thread."""
+    """The log below a prefix, by a connection of its own: for one thread. `script` is the one that a node was given."""
 
     def __init__(self, endpoints: Sequence[str], script: bytes, prefix: str = "/mdsal/", timeout: float = 1.0):
-        self.etcd, self.prefix, self.digest = Etcd(endpoints, timeout), prefix, hashlib.sha256(script).hexdigest()
+        self.etcd, self.prefix, self.script = Etcd(endpoints, timeout), prefix, script
         self.leader, self.tail, self.snap = prefix + "leader", prefix + "tail", prefix + "snap"
 
-    def entry(self, number: int) -> str:
-        return f"{self.prefix}log/{number:016d}"
+    def entry(self, index: int) -> str:
+        return f"{self.prefix}log/{index:016d}"
 
-    def entry_part(self, number: int, term: int, part: int) -> str:
-        return f"{self.prefix}part/{number:016d}/{term:016d}/{part:04d}"
+    def entry_part(self, index: int, term: int, part: int) -> str:
+        return f"{self.prefix}part/{index:016d}/{term:016d}/{part:04d}"
 
-    def snap_part(self, number: int, part: int) -> str:
-        return f"{self.prefix}snap/{number:016d}/{part:04d}"
+    def snap_folder(self, index: int) -> str:
+        return f"{self.prefix}snap/{index:016d}/"
 
-    def entries_after(self, number: int) -> tuple[str, str]:
-        """Returns the range of the entries above a number."""
-        return self.entry(number + 1), end_of(self.prefix + "log/")
+    def entries_after(self, index: int) -> tuple[str, str]:
+        """Returns the range of the entries above a commit index."""
+        return self.entry(index + 1), end_of(self.prefix + "log/")
 
     # ---- who leads
 
@@ -128,22 +169,38 @@ class Log:
         """What an append compares: my term, and the tail that it follows."""
         return [was_modified_at(self.leader, term), has_value(self.tail, str(above))]
 
-    def begin(self, term: int, frames: bytes) -> bool:
-        """Begins the log with the opening, the frame 0. Returns whether there was none."""
-        compare = [was_modified_at(self.leader, term), is_absent(self.tail)]
-        puts = [put(self.prefix + "script", self.digest), put(self.snap, self._snap(0, frames)), put(self.tail, str(Tail(0, 0)))]
-        is_written = self._write_parts(lambda i: self.snap_part(0, i), frames, compare)
-        return is_written and until_answered(lambda: self.etcd.transaction(compare, puts)).held
+    def begin(self, term: int, tail: Tail, frames: Sequence[bytes]) -> bool:
+        """Begins the log with the opening of each domain, its frame 0. Returns whether there was none."""
+        compare, opening = [was_modified_at(self.leader, term), is_absent(self.tail)], joined(frames)
+        script = self._kept(self.prefix + "script/", self.script, compare)
+        value = self._kept(self.snap_folder(tail.index), opening, compare) if script else None
+        puts = [put(self.snap, snap_of(tail.index, value, [script])), put(self.tail, str(tail))]
+        return bool(value) and until_answered(lambda: self.etcd.transaction(compare, puts)).held
 
-    def append(self, term: int, above: Tail, tail: Tail, frames: bytes) -> None:
-        """Appends the frames after `above` up to `tail`. It returns once they are durable, and raises `Fenced` if they never will be by me."""
-        puts = [put(self.tail, str(tail)), put(self.prefix + "by", str(term))]
-        if frames:
-            puts.append(put(self.entry(tail.number), self._value(term, tail.number, frames)))
+    def append(self, term: int, above: Tail, tail: Tail, frames: Sequence[bytes]) -> None:
+        """Appends the frames of each domain after `above` up to `tail`. It returns once they are durable, and raises `Fenced` if they never will be by
+        me."""
+        entry = [put(self.entry(tail.index), self._value(term, tail.index, joined(frames)))] if any(frames) else []
+        self._move(term, above, tail, entry)
+
+    def renew(self, term: int, above: Tail, script: bytes, frames: Sequence[bytes], tail: Tail) -> None:
+        """Appends another script, by which the log goes on, with a snapshot of each domain by it. As `append`."""
+        mine = [was_modified_at(self.leader, term)]
+        text = self._kept(self.prefix + "script/", script, mine)
+        value = self._kept(self.snap_folder(tail.index), joined(frames), mine) if text else None
+        found, _ = self.etcd.one(self.snap)
+        if not value or not found:
+            raise Fenced(f"script {tail.script} in term {term}")
+        scripts = json.loads(found.value)["scripts"][: tail.script]
+        self._move(term, above, tail, [put(self.entry(tail.index), SCRIPT), put(self.snap, snap_of(tail.index, value, [*scripts, text]))])
+
+    def _move(self, term: int, above: Tail, tail: Tail, puts: Sequence[Json]) -> None:
+        """Moves the tail, with these puts, if both comparisons hold."""
+        moves = [put(self.tail, str(tail)), put(self.prefix + "by", str(term)), *puts]
         reads = [get(self.leader), get(self.tail)]
-        it = until_answered(lambda: self.etcd.transaction(self.fences(term, above), puts, reads))
+        it = until_answered(lambda: self.etcd.transaction(self.fences(term, above), moves, reads))
         if not it.held and not self._was_made(it, term, tail):
-            raise Fenced(f"append up to {tail.number} in term {term}")
+            raise Fenced(f"append up to {tail} in term {term}")
 
     def confirm(self, term: int) -> None:
         """Returns if the term is still mine: what was read before this call may be answered. Else it raises `Fenced`. The transaction reads a key, so
@@ -157,13 +214,19 @@ class Log:
         leader, found = it.read
         return bool(leader and leader.modified == term and found and tail_of(found) == tail)
 
-    def _value(self, term: int, number: int, frames: bytes) -> bytes:
+    def _value(self, term: int, index: int, frames: bytes) -> bytes:
         """Returns the value of an entry. Long frames are written in parts first; they do not count before the entry names them."""
         if len(frames) <= PART:
             return frames
-        if not self._write_parts(lambda i: self.entry_part(number, term, i), frames, [was_modified_at(self.leader, term)]):
-            raise Fenced(f"parts of entry {number} in term {term}")
+        if not self._write_parts(lambda i: self.entry_part(index, term, i), frames, [was_modified_at(self.leader, term)]):
+            raise Fenced(f"parts of entry {index} in term {term}")
         return f"parts {term} {len(parts_of(frames))}".encode()
+
+    def _kept(self, folder: str, value: bytes, compare: Sequence[Json]) -> Json | None:
+        """Writes a long value below a folder, and returns where it is; nothing if a comparison did not hold."""
+        at = folder + secrets.token_hex(8)
+        is_written = self._write_parts(lambda i: f"{at}/{i:04d}", value, compare)
+        return {"at": at, "parts": len(parts_of(value)), "sha256": digest_of(value)} if is_written else None
 
     def _write_parts(self, key: Callable[[int], str], data: bytes, compare: Sequence[Json]) -> bool:
         """Writes the parts of a long value. Returns whether the comparisons held each time."""
@@ -171,53 +234,63 @@ class Log:
 
     # ---- snapshots: by any node, since they say what the log says
 
-    @staticmethod
-    def _snap(number: int, frames: bytes) -> str:
-        return json.dumps({"number": number, "parts": len(parts_of(frames)), "sha256": hashlib.sha256(frames).hexdigest()})
-
     def newest_snapshot(self) -> tuple[int, int]:
-        """Returns the number of the newest snapshot, and the revision that wrote its name."""
+        """Returns the commit index of the newest snapshot, and the revision that wrote its name."""
         found, _ = self.etcd.one(self.snap)
-        return (json.loads(found.value)["number"], found.modified) if found else (0, 0)
+        return (json.loads(found.value)["index"], found.modified) if found else (0, 0)
 
-    def keep_snapshot(self, number: int, frames: bytes) -> bool:
-        """Writes a snapshot of the frame of this number, and deletes what the one before it made needless. Returns whether it is the newest."""
-        older, revision = self.newest_snapshot()
-        if number <= older or not revision:
+    def keep_snapshot(self, index: int, frames: Sequence[bytes]) -> bool:
+        """Writes a snapshot of each domain, and deletes what the one before it made needless. Returns whether it is the newest."""
+        found, _ = self.etcd.one(self.snap)
+        if not found or index <= json.loads(found.value)["index"]:
             return False
-        compare = [was_modified_at(self.snap, revision)]
-        if not self._write_parts(lambda i: self.snap_part(number, i), frames, compare):
+        older, scripts = json.loads(found.value)["index"], json.loads(found.value)["scripts"]
+        compare = [was_modified_at(self.snap, found.modified)]
+        value = self._kept(self.snap_folder(index), joined(frames), compare)
+        if not value:
             return False
         gone = [
             delete(self.entry(0), self.entry(older + 1)),
             delete(self.prefix + "part/", f"{self.prefix}part/{older + 1:016d}"),
-            delete(self.snap_part(0, 0), self.snap_part(older, 0)),
+            delete(self.snap_folder(0), self.snap_folder(older)),
         ]
         try:
-            return self.etcd.transaction(compare, [put(self.snap, self._snap(number, frames)), *gone]).held
+            return self.etcd.transaction(compare, [put(self.snap, snap_of(index, value, scripts)), *gone]).held
         except Unknown:
             return False
 
     # ---- a follower
 
     def start(self) -> Start | None:
-        """Returns the newest snapshot, or nothing if there is no log."""
+        """Returns the newest snapshot, or nothing if there is no log. Raises `OtherScript` if this node was given none of the log's scripts."""
         while True:
             found, revision = self.etcd.one(self.snap)
             if not found:
                 return None
             it = json.loads(found.value)
+            if digest_of(self.script) not in [script["sha256"] for script in it["scripts"]]:
+                raise OtherScript("the log below this prefix is one of another script")
             try:
-                self._check_script(revision)
-                frames = b"".join(self._part(self.snap_part(it["number"], i), revision) for i in range(it["parts"]))
+                frames, text = split(self._value_at(it["value"], revision)), self._value_at(it["scripts"][-1], revision)
             except Refused:
                 continue  # compacted meanwhile
-            if hashlib.sha256(frames).hexdigest() != it["sha256"]:
-                raise RuntimeError(f"snapshot {it['number']} is damaged")
-            return Start(it["number"], frames, revision)
+            return Start(it["index"], frames, text, len(it["scripts"]) - 1, revision)
+
+    def text_of(self, script: int) -> bytes:
+        """Returns a script of the log."""
+        found, revision = self.etcd.one(self.snap)
+        assert found
+        return self._value_at(json.loads(found.value)["scripts"][script], revision)
+
+    def _value_at(self, it: Json, revision: int) -> bytes:
+        """Returns a long value, from where it is."""
+        value = b"".join(self._part(f"{it['at']}/{i:04d}", revision) for i in range(it["parts"]))
+        if digest_of(value) != it["sha256"]:
+            raise RuntimeError(f"{it['at']} is damaged")
+        return value
 
     def entries(self, after: int, revision: int) -> Iterator[Pair]:
-        """Yields the entries above a number, as they were at a revision."""
+        """Yields the entries above a commit index, as they were at a revision."""
         key, end = self.entries_after(after)
         while True:
             found, _ = self.etcd.range(key, end, revision=str(revision), limit=str(PAGE))
@@ -226,13 +299,13 @@ class Log:
                 return
             key = found[-1].key + "\0"
 
-    def frames_of(self, pair: Pair) -> bytes:
-        """Returns the frames of an entry."""
+    def frames_of(self, pair: Pair) -> list[bytes]:
+        """Returns the frames of an entry, by domain."""
         if not pair.value.startswith(b"parts "):
-            return pair.value
+            return split(pair.value)
         _, term, count = pair.value.split()
-        number = int(pair.key.rsplit("/", 1)[1])
-        return b"".join(self._part(self.entry_part(number, int(term), i), pair.modified) for i in range(int(count)))
+        index = index_of(pair)
+        return split(b"".join(self._part(self.entry_part(index, int(term), i), pair.modified) for i in range(int(count))))
 
     def end(self) -> tuple[Tail | None, int]:
         """Returns the tail, if there is a log, and the revision: a linearizable read."""
@@ -244,7 +317,3 @@ class Log:
         if not found:
             raise RuntimeError(f"{key} is missing at revision {revision}")
         return found.value
-
-    def _check_script(self, revision: int) -> None:
-        if self._part(self.prefix + "script", revision).decode() != self.digest:
-            raise OtherScript("the log below this prefix is one of another script")

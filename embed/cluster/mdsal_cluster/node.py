@@ -4,9 +4,10 @@
 
 ENDPOINTS are the URLs of the members of etcd, with commas. All nodes of a cluster have the same script. Requests are lines of JSON at the port:
 
-    {"steps": [STEP, ..], "era": ERA}   the leader: makes the steps, and answers {"replies", "base", "era", "number"} when all of them are durable
-    {"look": [STORE, PATH]}             the leader: {"value", "number"}, linearizable
-    {"look": [STORE, PATH], "min": N}   any node: the same of a commit from N on, perhaps an old one; {"error": "behind", "number"} before
+    {"steps": [STEP, ..], "era": ERA}   the leader: makes the steps, and answers {"replies", "bases", "era", "number"} when all of them are durable
+    {"look": [STORE, PATH, DOMAIN]}     the leader: {"value", "number"}, linearizable; domain 0 if none is named
+    {"look": [..], "min": N}            any node: the same of a commit from N on, perhaps an old one; {"error": "behind", "number"} before
+    {"renew": SCRIPT}                   the leader: the next epoch, by this script, on all nodes: {"script": COUNT} or {"refused": WHY}
     {"status": true}                    any node: {"name", "leads", "term", "number", "leader", "epochs", ..}
 
 Else the answer is {"error": "not the leader", "leader": HOST:PORT}, {"error": "ended"}, {"error": "bad request"} or {"refused": WHY}: nothing was
@@ -25,7 +26,7 @@ import mdsal
 from .election import Election, address_of
 from .etcd import Etcd, Refused, Unknown
 from .leader import Ended, Leader, NoAnswer, NotLeading, Session
-from .log import Fenced, Log, OtherScript
+from .log import Fenced, Log, OtherScript, Tail
 from .port import Answerer, Port
 from .replica import Replica
 
@@ -46,7 +47,7 @@ class Node:
             self.script = file.read()
         endpoints = words.endpoints.split(",")
         self.log = logs(endpoints, self.script, words.prefix)
-        self.replica = Replica(Log(endpoints, self.script, words.prefix), self.script)
+        self.replica = Replica(Log(endpoints, self.script, words.prefix))
         patience = max(0.3, words.lease / 3)
         me, how = {"name": words.name, "address": words.address}, {"may_lead": not words.reader, "seizes": words.seize}
         self.election = Election(Log(endpoints, self.script, words.prefix, patience), me, words.lease, how)
@@ -68,11 +69,12 @@ class Node:
             if "status" in request:
                 return self.status()
             leader = self.leader
-            if leader and ("steps" in request or "look" in request):
+            is_leaders = any(it in request for it in ("steps", "look", "renew"))
+            if leader and is_leaders:
                 return leader.make(session, request)
             if "look" in request and "min" in request:
                 return self.look(request)
-            if "steps" in request or "look" in request:
+            if is_leaders:
                 raise NotLeading
             return {"error": "bad request"}
         except NotLeading:
@@ -88,15 +90,14 @@ class Node:
 
     def look(self, request: dict[str, Any]) -> dict[str, Any]:
         """Looks in the replica: at a commit that may be an old one, whose number is told."""
-        store, path = request["look"]
-        found = self.replica.look(store, path)
+        found = self.replica.look(*request["look"])
         if not found or found[1] < request["min"]:
             return {"error": "behind", "number": found[1] if found else None}
         return {"value": found[0], "number": found[1]}
 
     def status(self) -> dict[str, Any]:
         leader, holder = self.leader, self.election.holder
-        number = leader.tail.number if leader else self.replica.number
+        number = leader.tail.numbers[0] if leader else self.replica.number
         it = {"name": self.words.name, "leads": bool(leader), "number": number, "loads": self.replica.loads, "since": self.since}
         return {**it, "term": holder.term if holder else None, "leader": holder.address if holder else None, "epochs": leader.era[1] if leader else 0}
 
@@ -123,14 +124,14 @@ class Node:
 
     def _keep_snapshot(self) -> None:
         """Writes a snapshot some time after the last one; the first follower to do so spares it the others."""
-        number = self.replica.number or 0
-        if number < self.snapshot_at:
+        index = self.replica.index or 0
+        if index < self.snapshot_at:
             return
         newest, _ = self.replica.log.newest_snapshot()
-        if number - newest >= self.words.snapshot:
-            newest = number
+        if index - newest >= self.words.snapshot:
+            newest = index
             try:
-                say(f"snapshot of {number}:", self.replica.log.keep_snapshot(*self.replica.snapshot()))
+                say(f"snapshot of {index}:", self.replica.log.keep_snapshot(*self.replica.snapshot()))
             except mdsal.BadExport as why:
                 say("no snapshot:", why)
         self.snapshot_at = newest + self.words.snapshot + random.randrange(self.words.snapshot)
@@ -142,11 +143,12 @@ class Node:
         tail = self.replica.catch_up()
         if tail is None:
             broker = mdsal.Broker(self.script)
-            if not self.log.begin(term, broker.snapshot()):
+            opening = [broker.snapshot(it) for it in range(broker.domains)]
+            if not self.log.begin(term, Tail(tuple(broker.numbers)), opening):
                 raise Fenced("the log has begun")
         else:
             broker = self.replica.lead(tail)
-        leader = self.leaders(self.log, term, broker, self.words.epoch)
+        leader = self.leaders(self.log, term, broker, self.words.epoch, tail.script if tail else 0)
         say(f"{self.words.name} leads in term {term} after {leader.tail}")
         self.leader, self.since = leader, time.time()
         try:

@@ -6,7 +6,8 @@ import time
 
 import mdsal
 from mdsal_cluster.etcd import Etcd, Event, Pair, Refused, end_of
-from mdsal_cluster.log import Log, Tail, tail_of
+from mdsal_cluster.log import SCRIPT, Log, Tail, tail_of
+from mdsal_cluster.replica import feed
 
 
 class Auditor(threading.Thread):
@@ -18,8 +19,8 @@ class Auditor(threading.Thread):
         self.standby = mdsal.StandBy(script, 0)
         self.faults: list[str] = []
         self.terms: list[tuple[int, str]] = []
-        self.tail = Tail(0, 0)
-        self.revision, self.appends, self.bytes, self.snapshots = 0, 0, 0, 0
+        self.tail = Tail((0,))
+        self.script, self.revision, self.appends, self.bytes, self.snapshots = 0, 0, 0, 0, 0
         self.stop = False
 
     def run(self) -> None:
@@ -61,18 +62,34 @@ class Auditor(threading.Thread):
         self.tail = tail
 
     def saw_snapshot(self) -> None:
-        """The first one is the opening, frame 0."""
+        """The first one is the opening, frame 0 of each domain."""
         self.snapshots += 1
         if self.snapshots == 1:
             start = self.log.start()
             assert start
-            self.standby.feed(start.frames)
+            feed(self.standby, start.frames)
 
-    def saw_entry(self, pair: Pair, number: int) -> None:
+    def saw_entry(self, pair: Pair, index: int) -> None:
         if pair.version != 1:
-            self.faults.append(f"entry {number} was written {pair.version} times")
-        frames = self.log.frames_of(pair)
-        self.appends, self.bytes = self.appends + 1, self.bytes + len(frames)
-        self.standby.feed(frames)
-        if self.standby.number != number:
-            self.faults.append(f"entry {number} leads to {self.standby.number}")
+            self.faults.append(f"entry {index} was written {pair.version} times")
+        if pair.value == SCRIPT:
+            self.saw_script()
+        else:
+            frames = self.log.frames_of(pair)
+            self.appends, self.bytes = self.appends + 1, self.bytes + sum(map(len, frames))
+            feed(self.standby, frames)
+        if sum(self.standby.numbers) + self.script != index:
+            self.faults.append(f"entry {index} leads to {self.standby.numbers} by script {self.script}")
+
+    def saw_script(self) -> None:
+        """Goes on by the next script, from its own trees; a domain that is new begins with its opening, frame 0."""
+        self.script += 1
+        numbers = self.standby.numbers
+        standby = mdsal.StandBy(self.log.text_of(self.script), numbers)
+        for domain in range(len(numbers)):
+            standby.feed(self.standby.snapshot(domain), domain)
+        start = self.log.start()
+        assert start
+        for domain in range(len(numbers), standby.domains):
+            standby.feed(start.frames[domain], domain)
+        self.standby = standby

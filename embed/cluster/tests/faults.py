@@ -10,39 +10,47 @@ from __future__ import annotations
 
 import argparse
 import collections
+import json
 import os
 import random
 import shutil
 import signal
 import subprocess
 import sys
+import threading
 import time
 from collections.abc import Callable
 
 from auditor import Auditor
 from checker import FOUND, SHOWN
-from mdsal_cluster.client import NoLeader, look_at
+from mdsal_cluster.client import NoLeader, asked, look_at
 from mdsal_cluster.local import Members, Nodes, Place, until
 from mdsal_cluster.log import Log
 from wires import Wires
 from workload import Looker, Reader, Recorder, World, Writer
 
 HERE = os.path.dirname(os.path.abspath(__file__))
-SCRIPT = f"{HERE}/registers.json"
+SCRIPT = f"{HERE}/devices.json"
 WRONG = [sys.executable, "-B", f"{HERE}/wrong.py"]
-WRITERS = 5
+CHECKER = [sys.executable, "-B", f"{HERE}/checker.py"]
+DOMAINS = (0, 1)  # the controller's own, and a device
+WRITERS, DEVICE_WRITERS = 5, 2
 FOUND_IT = "the checker found it"
 
 
 class Faults:
     """The faults, each as a method: it makes the fault, waits for the next acknowledged write, and mends it."""
 
-    def __init__(self, members: Members, nodes: Nodes, world: World, seed: int):
-        self.members, self.nodes, self.world, self.random = members, nodes, world, random.Random(seed)
+    def __init__(self, members: Members, nodes: Nodes, worlds: list[World], seed: int):
+        self.members, self.nodes, self.worlds, self.random = members, nodes, worlds, random.Random(seed)
+        self.world = worlds[0]
         self.took: dict[str, list[float | None]] = collections.defaultdict(list)
         self.found: list[str] = []
         self.epochs: dict[int, int] = {}  # of each term, as its leader said before a fault
         self.wires = self.wired()
+        self.devices = 1
+        with open(SCRIPT, "rb") as file:
+            self.script = file.read()
 
     def wired(self) -> dict[str, Wires]:
         """Puts wires between nodes and members, which `cut` cuts."""
@@ -53,7 +61,7 @@ class Faults:
     def kinds(self) -> dict[str, Callable[[], float | None]]:
         return {
             "kill": self.kill, "pause": self.pause, "member": self.member, "stuck": self.stuck, "both": self.both, "follower": self.follower,
-            "quorum": self.quorum, "blackout": self.blackout, "cut": self.cut,
+            "quorum": self.quorum, "blackout": self.blackout, "cut": self.cut, "renew": self.renew,
         }
 
     def recovered(self, since: float) -> float | None:
@@ -69,6 +77,19 @@ class Faults:
     def kill(self) -> float | None:
         """The leader is killed."""
         name, since = self.leader(), time.monotonic()
+        self.nodes.kill(name)
+        took = self.recovered(since)
+        self.nodes.start(name)
+        return took
+
+    def renew(self) -> float | None:
+        """Another script begins, with a device more, and the leader is killed at about that time."""
+        name, since = self.leader(), time.monotonic()
+        self.devices += 1
+        script = json.loads(self.script)
+        request = {"renew": {**script, "devices": self.devices * script["devices"]}}
+        threading.Thread(target=asked, args=(self.nodes.addresses[name], request), daemon=True).start()
+        time.sleep(self.random.uniform(0.0, 0.5))
         self.nodes.kill(name)
         took = self.recovered(since)
         self.nodes.start(name)
@@ -177,7 +198,8 @@ class Test:
         self.words, self.folder, self.history = words, words.folder, f"{words.folder}/history"
         for it in (self.history, f"{self.folder}/nodes"):
             shutil.rmtree(it, ignore_errors=True)
-        os.makedirs(self.history)
+        for domain in DOMAINS:
+            os.makedirs(f"{self.history}/{domain}")
         with open(SCRIPT, "rb") as file:
             self.script = file.read()
         self.members = Members(f"{self.folder}/etcd", place=place)
@@ -186,25 +208,30 @@ class Test:
         self.nodes.programs["c"] = [*WRONG, "parts"]
         if words.wrong:
             self.nodes.programs = {name: [*WRONG, words.wrong] for name in self.nodes.addresses}
-        self.world, self.faults = World(self.history), faults
+        self.worlds, self.faults = [World(f"{self.history}/{domain}", domain) for domain in DOMAINS], faults
         self.auditor = Auditor(Log(self.members.endpoints, self.script), self.script)
         self.crowd: list[Recorder] = []
         self.crowds = 0
 
     def start_crowd(self) -> None:
-        """Starts clients, under new names each time."""
+        """Starts the clients of both domains, under new names each time."""
         self.crowds += 1
-        addresses, seed, mark = list(self.nodes.addresses.values()), self.words.seed, "" if self.crowds == 1 else f".{self.crowds}"
-        writers: list[Recorder] = [Writer(f"w{i}{mark}", self.world, seed, addresses) for i in range(WRITERS)]
-        readers = [Reader(f"r{i}{mark}", self.world, seed, addresses[i:]) for i in range(2)]
-        self.crowd = [*writers, *readers, Looker(f"l{mark}", self.world, seed, addresses)]
-        self.world.stop.clear()
+        self.crowd = [it for world in self.worlds for it in self.crowd_of(world)]
+        for world in self.worlds:
+            world.stop.clear()
         for it in self.crowd:
             it.start()
 
+    def crowd_of(self, world: World) -> list[Recorder]:
+        addresses, seed, mark = list(self.nodes.addresses.values()), self.words.seed, "" if self.crowds == 1 else f".{self.crowds}"
+        writers = [Writer(f"w{i}{mark}", world, seed, addresses) for i in range(DEVICE_WRITERS if world.domain else WRITERS)]
+        readers = [Reader(f"r{i}{mark}", world, seed, addresses[i:]) for i in range(1 if world.domain else 2)]
+        return [*writers, *readers, Looker(f"l{mark}", world, seed, addresses)]
+
     def stop_crowd(self) -> None:
         """Waits until each client has its last answer: only then its history is whole."""
-        self.world.stop.set()
+        for world in self.worlds:
+            world.stop.set()
         for it in self.crowd:
             it.join()
 
@@ -212,7 +239,7 @@ class Test:
         """Runs the rounds, and returns the exit status."""
         try:
             self.auditor.start()
-            faults = self.faults(self.members, self.nodes, self.world, self.words.seed)
+            faults = self.faults(self.members, self.nodes, self.worlds, self.words.seed)
             self.nodes.start()
             faults.leader()
             self.start_crowd()
@@ -224,7 +251,7 @@ class Test:
             self.auditor.stop = True
             self.nodes.stop()
             self.members.stop()
-        problems += self.auditor.faults + self.world.broken
+        problems += self.auditor.faults + [why for it in self.worlds for why in it.broken]
         for it in problems[:SHOWN]:
             print("FAULT:", it)
         is_bad = self.checked(quiet=False) or problems
@@ -249,35 +276,37 @@ class Test:
         return []
 
     def checked(self, quiet: bool) -> int:
-        """Runs the checker, and returns its exit status."""
-        words = [sys.executable, "-B", f"{HERE}/checker.py", self.history]
-        return subprocess.call(words, stdout=subprocess.DEVNULL if quiet else None)
+        """Runs the checker over the history of each domain, and returns its exit status for the first that has a fault. No transaction is of two domains,
+        so there is an order for both if there is one for each."""
+        out = subprocess.DEVNULL if quiet else None
+        return next((it for it in [subprocess.call([*CHECKER, world.folder], stdout=out) for world in self.worlds] if it), 0)
 
     def ending(self) -> list[str]:
-        """The last read, and the trees of all nodes and of the auditor at its number. Returns what is wrong."""
-        last = Reader("last", self.world, self.words.seed, list(self.nodes.addresses.values()))
+        """The last reads, and the trees of all nodes and of the auditor at their numbers. Returns what is wrong."""
+        addresses = list(self.nodes.addresses.values())
         try:
-            _, number = last.read(is_last=True)
+            numbers = [Reader("last", it, self.words.seed, addresses).read(is_last=True)[1] for it in self.worlds]
         except NoLeader:
             return ["nobody answers the last read"]
-        trees = until(lambda: self.trees(number), 20.0)
+        trees = until(lambda: self.trees(numbers), 20.0)
         if not trees:
             nodes = [self.nodes.status(it).get("number") for it in self.nodes.addresses]
-            return [f"not all replicas reach {number}: the nodes {nodes}, the auditor {self.auditor.standby.number}"]
-        return [] if all(it == trees[0] for it in trees) else [f"the trees after {number} differ"]
+            return [f"not all replicas reach {numbers}: the nodes {nodes}, the auditor {self.auditor.standby.numbers}"]
+        return [] if all(it == trees[0] for it in trees) else [f"the trees after {numbers} differ"]
 
-    def trees(self, number: int) -> list[object] | None:
-        """Returns both trees of each node and of the auditor, once they have this number."""
-        if self.auditor.standby.number != number:
+    def trees(self, numbers: list[int]) -> list[object] | None:
+        """Returns both trees of both domains of each node and of the auditor, once they have these numbers."""
+        if self.auditor.standby.numbers[: len(numbers)] != numbers:
             return None
-        looks = [[look_at(it, store, "/", number) for store in ("config", "operational")] for it in self.nodes.addresses.values()]
-        own = [(self.auditor.standby.look(store, "/"), number) for store in ("config", "operational")]
-        return [*looks, own] if all(it for pair in looks for it in pair) else None
+        which = [(store, domain) for domain in DOMAINS for store in ("config", "operational")]
+        looks = [[look_at(it, store, "/", numbers[domain], domain) for store, domain in which] for it in self.nodes.addresses.values()]
+        own = [(self.auditor.standby.look(store, "/", domain), numbers[domain]) for store, domain in which]
+        return [*looks, own] if all(it for pairs in looks for it in pairs) else None
 
     def tell(self, faults: Faults, seconds: float) -> None:
         auditor = self.auditor
-        print(f"{seconds:.0f} s, {self.world.count} acknowledged, {len(auditor.terms)} terms, {auditor.appends} appends of {auditor.bytes} bytes, "
-              f"{auditor.snapshots} snapshots, at least {sum(faults.epochs.values())} epochs")
+        print(f"{seconds:.0f} s, {' and '.join(str(it.count) for it in self.worlds)} acknowledged, {len(auditor.terms)} terms, {auditor.appends} appends of {auditor.bytes} bytes, "
+              f"{auditor.snapshots} snapshots, {auditor.script} more scripts, at least {sum(faults.epochs.values())} epochs")
         for kind, took in faults.took.items():
             good = sorted(it for it in took if it is not None)
             if good:

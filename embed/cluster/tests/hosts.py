@@ -97,7 +97,7 @@ class HostFaults(Faults):
 
     def kinds(self) -> dict[str, Callable[[], float | None]]:
         lines = {"host": self.host, "other": self.other, "apart": self.apart, "flapping": self.flapping, "side": self.side}
-        return {"kill": self.kill, "both": self.both, **lines}
+        return {"kill": self.kill, "both": self.both, "renew": self.renew, **lines}
 
     def cut_off(self, i: int) -> float | None:
         """Cuts a host off until a write is acknowledged, and some time longer."""
@@ -117,11 +117,13 @@ class HostFaults(Faults):
         nothing to append, and may answer no read."""
         i = NAMES.index(self.leader())
         pairs = [pair for k in range(len(HOSTS)) if k != i for pair in ((i, k), (k, i))]
-        self.world.lull.set()
+        for it in self.worlds:
+            it.lull.set()
         time.sleep(LULL)
         since = time.monotonic()
         line(i, "down")
-        self.world.lull.clear()
+        for it in self.worlds:
+            it.lull.clear()
         for pair in pairs:
             route(*pair, "add")
         took = self.recovered(since)

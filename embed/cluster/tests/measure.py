@@ -48,7 +48,7 @@ class Watching(threading.Thread):
     def __init__(self, log: Log):
         super().__init__(daemon=True)
         endpoints, self.at = log.etcd.endpoints, {}
-        self.replica, self.watcher = Replica(Log(endpoints, TEXT, log.prefix), TEXT), Etcd(endpoints)
+        self.replica, self.watcher = Replica(Log(endpoints, TEXT, log.prefix)), Etcd(endpoints)
         self.replica.load()
 
     def run(self) -> None:
@@ -62,16 +62,16 @@ def appends(log: Log, term: int, broker: mdsal.Broker, each: int) -> None:
     """Commits an append, `each` of them, as the leader makes them, with a follower beside it."""
     follower = Watching(log)
     follower.start()
-    tail, durable, start, version = Tail(broker.number, 0), {}, time.monotonic(), 0
+    tail, durable, start, version = Tail((broker.number,)), {}, time.monotonic(), 0
     while time.monotonic() - start < SECONDS:
         version += 1
         for client in range(each):
             commit(broker, client, version)
-        following = Tail(broker.number, 0)
-        log.append(term, tail, following, broker.frames(tail.number))
-        tail, durable[following.number] = following, time.monotonic()
+        following = Tail((broker.number,))
+        log.append(term, tail, following, [broker.frames(tail.numbers[0])])
+        tail, durable[following.index] = following, time.monotonic()
     seconds, count = time.monotonic() - start, version * each
-    until(lambda: follower.replica.number == tail.number, 10.0)
+    until(lambda: follower.replica.index == tail.index, 10.0)
     lags = [1000 * (follower.at[number] - at) for number, at in durable.items() if number in follower.at]
     print(f"{each} commits an append: {count / seconds:.0f} a second, {1000 * seconds / version:.1f} ms an append; a follower has it "
           f"{middle(lags):.1f} ms after the leader, at most {max(lags):.1f}", flush=True)
@@ -126,18 +126,18 @@ def late_follower(log: Log, entries: int) -> None:
     """A tree of many entries: a snapshot, its parts, a late follower, the next epoch, a lead."""
     term = log.campaign({"name": "m", "address": "127.0.0.1:1"}, log.etcd.grant(600))
     broker = mdsal.Broker(TEXT)
-    log.begin(term, broker.snapshot())
+    log.begin(term, Tail((0,)), [broker.snapshot()])
     for at in range(0, entries, 100):
         puts = [["put", 0, "config", REGISTER.format(f"e{i}"), {"name": f"e{i}", "version": i, "by": "m"}] for i in range(at, at + 100)]
         broker.steps(0, [["begin", 0, 0, "rw"], *puts, ["submit", 0], ["settle", 0]])
-    tail = Tail(broker.number, 0)
-    log.append(term, Tail(0, 0), tail, broker.frames(0))
+    tail = Tail((broker.number,))
+    log.append(term, Tail((0,)), tail, [broker.frames(0)])
     marks = [time.monotonic()]
     frames = broker.snapshot()
     marks.append(time.monotonic())
-    log.keep_snapshot(broker.number, frames)
+    log.keep_snapshot(broker.number, [frames])
     marks.append(time.monotonic())
-    replica = Replica(log, TEXT)
+    replica = Replica(log)
     replica.load()
     marks.append(time.monotonic())
     broker.epoch(broker.number)
@@ -157,7 +157,7 @@ def main(folder: str) -> None:
         log = Log(members.endpoints, TEXT, "/appends/")
         term = log.campaign({"name": "m", "address": "127.0.0.1:1"}, log.etcd.grant(600))
         broker = mdsal.Broker(TEXT)
-        log.begin(term, broker.snapshot())
+        log.begin(term, Tail((0,)), [broker.snapshot()])
         for each in (1, 8, 64):
             appends(log, term, broker, each)
         nodes.start()

@@ -16,7 +16,7 @@ import mdsal
 from checker import FOUND
 from mdsal_cluster.etcd import Refused, Unknown, end_of, put
 from mdsal_cluster.local import Members
-from mdsal_cluster.log import PART, Fenced, Log, OtherScript, Tail
+from mdsal_cluster.log import PART, Fenced, Log, OtherScript, Tail, joined
 from mdsal_cluster.replica import Replica
 from wrong import LOGS
 
@@ -52,7 +52,7 @@ class Rules:
     def __init__(self, members: Members, logs: type[Log]):
         self.members, self.faults, self.is_wrong = members, 0, logs is not Log
         self.a, self.b = logs(members.endpoints, SCRIPT), logs(members.endpoints, SCRIPT)
-        self.tail = Tail(0, 0)
+        self.tail = Tail((0,))
 
     def check(self, what: str, holds: object) -> None:
         """Tells whether a rule holds. A log that is wrong on purpose ends with its first fault."""
@@ -67,8 +67,8 @@ class Rules:
 
     def append(self, log: Log, term: int, broker: mdsal.Broker) -> None:
         """Appends all commits after the tail."""
-        tail = Tail(broker.number, broker.version)
-        log.append(term, self.tail, tail, broker.frames(self.tail.number))
+        tail = Tail(tuple(broker.numbers), broker.version)
+        log.append(term, self.tail, tail, [broker.frames(self.tail.numbers[0])])
         self.tail = tail
 
     def first_term(self) -> None:
@@ -77,63 +77,63 @@ class Rules:
         self.check("one wins a term, another one does not", self.first and not self.campaign(self.b, "b"))
         self.lease = lease
         self.leader = mdsal.Broker(SCRIPT)
-        opening = self.leader.snapshot()
-        self.check("the log begins once", self.a.begin(self.first, opening) and not self.a.begin(self.first, opening))
+        opening = [self.leader.snapshot()]
+        self.check("the log begins once", self.a.begin(self.first, self.tail, opening) and not self.a.begin(self.first, self.tail, opening))
         commit(self.leader, "a", 3)
-        before, frames = self.tail, self.leader.frames(0)
+        before, frames = self.tail, [self.leader.frames(0)]
         self.append(self.a, self.first, self.leader)
         again = not fails(Fenced, self.a.append, self.first, before, self.tail, frames)
         entry, _ = self.a.etcd.one(self.a.entry(3))
         self.check("an append whose answer was lost may be made again, and is there once", again and entry and entry.version == 1)
-        self.check("an append after another tail is refused", fails(Fenced, self.a.append, self.first, Tail(2, 0), Tail(4, 0), b"x"))
+        self.check("an append after another tail is refused", fails(Fenced, self.a.append, self.first, Tail((2,)), Tail((4,)), [b"x"]))
 
     def second_term(self) -> None:
         commit(self.leader, "a")
-        frames = self.leader.frames(3)
+        frames = [self.leader.frames(3)]
         self.a.etcd.revoke(self.lease)
         self.second = self.campaign(self.b, "b")
         self.check("who lost its lease answers no read", fails(Fenced, self.a.confirm, self.first))
-        self.check("and appends nothing, also where the tail has not moved", fails(Fenced, self.a.append, self.first, self.tail, Tail(4, 0), frames))
-        replica = Replica(Log(self.members.endpoints, SCRIPT), SCRIPT)
+        self.check("and appends nothing, also where the tail has not moved", fails(Fenced, self.a.append, self.first, self.tail, Tail((4,)), frames))
+        replica = Replica(Log(self.members.endpoints, SCRIPT))
         tail = replica.catch_up()
         self.check("the next leader has what was acknowledged, and nothing else", tail == self.tail)
-        broker = replica.lead(Tail(replica.number or 0, 0))
+        broker = replica.lead(Tail((replica.number or 0,)))
         commit(broker, "b", 2)
         self.append(self.b, self.second, broker)
-        self.check("and its commits follow", self.b.end()[0] == Tail(5, 0))
+        self.check("and its commits follow", self.b.end()[0] == Tail((5,)))
 
     def seized(self) -> None:
         third = self.campaign(self.a, "a", self.second)
-        self.check("a term may be taken over while it lasts", third and fails(Fenced, self.b.append, self.second, self.tail, Tail(6, 0), b"x"))
+        self.check("a term may be taken over while it lasts", third and fails(Fenced, self.b.append, self.second, self.tail, Tail((6,)), [b"x"]))
         self.check("but not one that ended", not self.campaign(self.b, "b", self.second))
         self.third = third
-        replica = Replica(Log(self.members.endpoints, SCRIPT), SCRIPT)
+        replica = Replica(Log(self.members.endpoints, SCRIPT))
         replica.catch_up()
         self.members.kill(0)
-        self.leader = replica.lead(Tail(replica.number or 0, 0))
+        self.leader = replica.lead(Tail((replica.number or 0,)))
         commit(self.leader, "a", 5)
         self.append(self.a, self.third, self.leader)
-        self.check("two of three members suffice", self.a.end()[0] == Tail(10, 0))
+        self.check("two of three members suffice", self.a.end()[0] == Tail((10,)))
         self.members.start(0)
         self.members.wait()
 
     def long_frames(self) -> None:
         text = "long " * 120_000
         self.leader.update(lambda it: it.put("config", REGISTER.format("y"), {"name": "y", "version": 1, "by": text}))
-        frames = self.leader.frames(self.tail.number)
+        frames = self.leader.frames(self.tail.numbers[0])
         self.append(self.a, self.third, self.leader)
-        self.late = Replica(Log(self.members.endpoints, SCRIPT), SCRIPT)
+        self.late = Replica(Log(self.members.endpoints, SCRIPT))
         self.late.catch_up()
         found = self.late.look("config", REGISTER.format("y"))
         self.check(f"a frame longer than a request goes in parts: {len(frames)} bytes", len(frames) > 2 * PART and found and found[0]["by"] == text)
-        self.check("and so does a snapshot", self.a.keep_snapshot(11, self.leader.snapshot()) and Replica(self.b, SCRIPT).catch_up() == self.tail)
-        self.check("an older snapshot does not count", not self.b.keep_snapshot(5, b"x"))
+        self.check("and so does a snapshot", self.a.keep_snapshot(11, [self.leader.snapshot()]) and Replica(self.b).catch_up() == self.tail)
+        self.check("an older snapshot does not count", not self.b.keep_snapshot(5, [b"x"]))
 
     def snapshots(self) -> None:
         commit(self.leader, "a", 2)
         self.append(self.a, self.third, self.leader)
         self.late.catch_up()
-        same = self.late.snapshot() == (13, self.leader.snapshot())
+        same = self.late.snapshot() == (13, [self.leader.snapshot()])
         self.check("a follower's snapshot is the leader's, to the byte", same and self.b.keep_snapshot(*self.late.snapshot()))
         entries, _ = self.a.etcd.range(self.a.entry(0), end_of(self.a.prefix + "log/"))
         parts, _ = self.a.etcd.range(self.a.prefix + "part/", end_of(self.a.prefix + "part/"))
@@ -144,7 +144,7 @@ class Rules:
         loads = self.late.loads
         self.late.catch_up()
         self.check("a follower does not notice an epoch", self.late.number == 14 and self.late.loads == loads)
-        very_late = Replica(Log(self.members.endpoints, SCRIPT), SCRIPT)
+        very_late = Replica(Log(self.members.endpoints, SCRIPT))
         very_late.load()
         self.check("a late follower begins with the snapshot, and has the same trees", very_late.look("config", "/") == self.late.look("config", "/"))
         _, revision = self.a.end()
@@ -153,15 +153,15 @@ class Rules:
         self.check("a watch from a compacted revision is refused, a load is not", fails(Refused, list, watch) and very_late.load())
 
     def versions(self) -> None:
-        self.a.append(self.third, Tail(14, 0), Tail(14, 1), b"")
-        self.check("an upgrade without a commit moves the tail", self.b.end()[0] == Tail(14, 1))
-        self.check("and what expects the old version is refused", fails(Fenced, self.a.append, self.third, Tail(14, 0), Tail(15, 0), b"x"))
+        self.a.append(self.third, Tail((14,)), Tail((14,), 1), [])
+        self.check("an upgrade without a commit moves the tail", self.b.end()[0] == Tail((14,), 1))
+        self.check("and what expects the old version is refused", fails(Fenced, self.a.append, self.third, Tail((14,)), Tail((15,)), [b"x"]))
 
     def wrong_bytes(self) -> None:
-        self.check("a node with another script is refused", fails(OtherScript, Replica(Log(self.members.endpoints, b"{}"), SCRIPT).load))
+        self.check("a node with another script is refused", fails(OtherScript, Replica(Log(self.members.endpoints, b"{}")).load))
         text = b'{"commit":16,"config":[],"operational":[]}'
-        self.a.etcd.transaction([], [put(self.a.entry(16), b"%08d\n%s\n" % (len(text), text))])
-        replica = Replica(Log(self.members.endpoints, SCRIPT), SCRIPT)
+        self.a.etcd.transaction([], [put(self.a.entry(16), joined([b"%08d\n%s\n" % (len(text), text)]))])
+        replica = Replica(Log(self.members.endpoints, SCRIPT))
         self.check("a gap in the log is refused", fails(mdsal.BadStream, replica.load, words="gap 15 16"))
 
     def without_quorum(self) -> None:

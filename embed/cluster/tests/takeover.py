@@ -22,7 +22,11 @@ from mdsal_cluster.port import Link
 FIRST = "module m { namespace 'urn:m'; prefix m; container box { leaf a { type string; } leaf n { type uint32; } } }"
 SECOND = "module n { namespace 'urn:n'; prefix n; import m { prefix m; } augment /m:box { leaf b { type string; } } }"
 THIRD = "module o { namespace 'urn:o'; prefix o; import m { prefix m; } augment /m:box { leaf c { type string; } } }"
-SCRIPT = {"modules": [FIRST], "upgrades": [[SECOND], [THIRD]], "rules": 2, "reads": "checked"}
+FOURTH = "module p { namespace 'urn:p'; prefix p; import m { prefix m; } augment /m:box { leaf d { type string; } } }"
+SWITCH = "module s { namespace 'urn:s'; prefix s; container switch { leaf speed { type uint32; } } }"
+DEVICE = {"modules": [SWITCH], "config": {"s:switch": {"speed": 10}}}
+SCRIPT = {"modules": [FIRST], "upgrades": [[SECOND], [THIRD]], "devices": [DEVICE], "rules": 2, "reads": "checked"}
+WIDER = {**SCRIPT, "upgrades": [[SECOND], [THIRD], [FOURTH]], "devices": [DEVICE, DEVICE]}
 OPEN = [["begin", 0, 0, "rw"], ["put", 0, "config", "/m:box/a", "lost"]]
 
 
@@ -119,6 +123,44 @@ class Takeover:
         self.put("/m:box/a", "after")
         self.check("and the next one is made", self.value("/m:box") == {"a": "after", "n": 99, "n:b": "z", "o:c": "w"})
 
+    def speed(self, domain: int) -> Any:
+        return self.client.look("config", "/s:switch/speed", domain)[0]
+
+    def set_speed(self, domain: int, speed: int) -> None:
+        self.client.update(lambda it: it.put("config", "/s:switch/speed", speed), domain)
+
+    def device(self) -> None:
+        """A device's trees outlive the leader; its mount does not."""
+        self.check("a device has the trees of the script", self.speed(1) == 10)
+        self.check("and is mounted", self.client.steps([["mount", 1, "/m:box"]]).replies == ["ok"] and not self.set_speed(1, 100))
+        self.nodes.kill(self.nodes.leader() or "")
+        self.check("the next leader has its trees", self.speed(1) == 100)
+        self.check("but not its mount", fails((Refused,), self.set_speed, 1, 200))
+        self.check("it is mounted anew", self.client.steps([["mount", 1, "/m:box"]]).replies == ["ok"] and not self.set_speed(1, 200))
+        self.nodes.start(*(name for name in self.nodes.addresses if name not in self.nodes.running))
+
+    def wider_script(self, folder: str) -> None:
+        """Another script begins on all nodes: with an upgrade more, and a device more."""
+        number = self.client.look("config", "/")[1]
+        self.check("a script that is none is refused, and nothing is lost", fails((Refused,), self.client.renew, "{") and self.speed(1) == 200)
+        self.check("so is one without the device", fails((Refused,), self.client.renew, {**SCRIPT, "devices": []}) and self.speed(1) == 200)
+        self.check("a wider one begins", self.client.renew(WIDER) == 1)
+        self.check("with the trees and numbers of the one before", (self.speed(1), self.client.look("config", "/")[1]) == (200, number))
+        self.check("it has a device more", self.client.steps([["mount", 2, "/m:box"]]).replies == ["ok"] and not self.set_speed(2, 300))
+        self.check("and an upgrade more", self.client.steps([["upgrade", 1]]).replies == ["ok"] and not self.put("/m:box/p:d", "v"))
+        self.nodes.kill(self.nodes.leader() or "")
+        self.check("the next leader has both", (self.speed(2), self.value("/m:box/p:d")) == (300, "v"))
+        self.nodes.start(*(name for name in self.nodes.addresses if name not in self.nodes.running))
+        number = self.client.look("config", "/")[1]
+        self.check("every node has them, also one that was started anew, with the first script", until(lambda: self.looks("/m:box/p:d", number)) == [("v", number)] * 3)
+        with open(f"{folder}/wider.json", "w", encoding="utf-8") as file:
+            json.dump(WIDER, file)
+        name = next(it for it in self.nodes.running if it != self.nodes.leader())
+        self.nodes.kill(name)
+        self.nodes.script = f"{folder}/wider.json"
+        self.nodes.start(name)
+        self.check("and one that was started with the second", until(lambda: self.looks("/m:box/p:d", number)) == [("v", number)] * 3)
+
     def other_script(self, folder: str, endpoints: list[str]) -> None:
         with open(f"{folder}/other.json", "w", encoding="utf-8") as file:
             json.dump({"modules": [FIRST]}, file)
@@ -147,6 +189,8 @@ def main(folder: str) -> int:
         test.upgrade_and_kill()
         test.follower()
         test.epoch()
+        test.device()
+        test.wider_script(folder)
         test.other_script(folder, members.endpoints)
         test.nobody()
     finally:

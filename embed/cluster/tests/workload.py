@@ -9,6 +9,7 @@ from typing import Any
 
 from mdsal_cluster.client import Answer, Client, Ended, NoLeader, Unanswered, look_at
 
+MOUNT = "/registers:registers"
 REGISTERS = "/registers:registers"
 REGISTER = REGISTERS + "/register[name='{}']"
 NAMES = tuple(f"r{i}" for i in range(5))
@@ -16,10 +17,10 @@ Values = dict[str, tuple[int, str]]
 
 
 class World:
-    """What the clients share: whether to stop, how many writes were acknowledged, and the newest number that one was told."""
+    """What the clients of a domain share: whether to stop, how many writes were acknowledged, and the newest number that one was told."""
 
-    def __init__(self, folder: str):
-        self.folder, self.stop, self.lock = folder, threading.Event(), threading.Lock()
+    def __init__(self, folder: str, domain: int = 0):
+        self.folder, self.domain, self.stop, self.lock = folder, domain, threading.Event(), threading.Lock()
         self.lull = threading.Event()  # writers wait while it is set
         self.count, self.newest, self.begun = 0, 0, 0.0  # `begun` is when the last acknowledged write was sent
         self.broken: list[str] = []  # clients that ended by an error
@@ -85,12 +86,13 @@ class Writer(Recorder):
 
     def begin(self, names: list[str]) -> Values:
         """Begins a transaction: what it reads is a read of its own."""
-        sent = time.monotonic()
-        it = self.link.steps([["begin", 0, 0, "rw"], *(["read", 0, "config", REGISTER.format(name)] for name in names)])
-        begun, *reads = it.replies
+        sent, domain = time.monotonic(), self.world.domain
+        mount = [["mount", domain, MOUNT]] if domain else []
+        it = self.link.steps([*mount, ["begin", 0, domain, "rw"], *(["read", 0, "config", REGISTER.format(name)] for name in names)])
+        begun, *reads = it.replies[len(mount):]
         entries = [json.loads(text.removeprefix("data ")) if text.startswith("data ") else None for text in reads]
         values = {name: value_of(entry) for name, entry in zip(names, entries)}
-        self.record(sent, "read", at=self.link.at, values=values, number=it.base + int(begun.removeprefix("begun ")))
+        self.record(sent, "read", at=self.link.at, values=values, number=it.bases[domain] + int(begun.removeprefix("begun ")))
         return values
 
     def write(self, values: Values, names: list[str]) -> None:
@@ -108,7 +110,7 @@ class Writer(Recorder):
 
     def told(self, sent: float, it: Answer, what: dict[str, Any]) -> None:
         outcome, *words = it.replies[-1].split()
-        number = it.base + int(words[0]) if outcome == "done" else None
+        number = it.bases[self.world.domain] + int(words[0]) if outcome == "done" else None
         if outcome not in ("done", "conflict"):
             raise RuntimeError(f"{what['id']}: {it.replies}")
         self.record(sent, "write", **what, answer=outcome, number=number)
@@ -132,7 +134,7 @@ class Reader(Recorder):
 
     def read(self, is_last: bool = False) -> tuple[Values, int]:
         sent = time.monotonic()
-        found, number = self.link.look("config", REGISTERS)
+        found, number = self.link.look("config", REGISTERS, self.world.domain)
         values = values_of(found)
         self.record(sent, "read", at=self.link.at, values=values, number=number, is_last=is_last)
         return values, number
@@ -150,6 +152,6 @@ class Looker(Recorder):
         at = self.random.choice(self.addresses)
         least = self.random.choice((0, self.world.newest))
         sent = time.monotonic()
-        it = look_at(at, "config", REGISTERS, least)
+        it = look_at(at, "config", REGISTERS, least, self.world.domain)
         if it:
             self.record(sent, "look", at=at, values=values_of(it[0]), number=it[1], min=least)

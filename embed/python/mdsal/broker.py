@@ -3,12 +3,13 @@ from __future__ import annotations
 
 import contextlib
 import ctypes
+import enum
 import threading
-from typing import Any, Callable, Iterable, TypeVar
+from typing import Any, Callable, Iterable, Iterator, Sequence, TypeVar
 
 from .errors import BadClient, Error
-from .library import Handle, Session, bytes_of, number
-from .replies import Conflict, Data, Done, Outcome, Reply, Truth, reply_of
+from .library import Handle, Session, bytes_of, number, numbers
+from .replies import Batch, Conflict, Data, Done, Notes, Outcome, Reply, Request, Truth, reply_of
 
 CLIENTS = 65536
 Kept = TypeVar("Kept")
@@ -20,6 +21,21 @@ class NotCommitted(Error):
     def __init__(self, outcome: Outcome):
         super().__init__(str(outcome))
         self.outcome = outcome
+
+
+class Waiting(enum.IntFlag):
+    """What waits for a client: each flag is set if and only if the step would give something now."""
+
+    REQUEST = 1
+    """`next-call` would give a request."""
+    NOTES = 2
+    """`take-notes` would give a notification."""
+    ANSWER = 4
+    """`collect` would give the answer to the request in the slot."""
+    DECIDED = 8
+    """The submission whose receipt is in the slot is decided: `settle` would give its outcome, and decide nothing."""
+    CHANGES = 16
+    """The batch of `take` would go beyond the one before: the domain of the listener in the slot has commits, which may have no change at its path."""
 
 
 class Broker(Session):
@@ -57,14 +73,29 @@ class Broker(Session):
         """Makes the client's next step, and returns its reply with its fields. A refused step raises an exception of `mdsal.refusals`."""
         return reply_of(self.step(client, step))
 
-    def frames(self, above: int) -> bytes:
-        """Returns the frames of the commits of the controller's own domain with numbers above this one, in order."""
-        return self._call(f"frames above {above}", "frames", number(above, 64))
+    def frames(self, above: int, domain: int = 0) -> bytes:
+        """Returns the frames of the domain's commits with numbers above this one, in order. Domain 0 is the controller's own."""
+        return self._call(f"frames of domain {domain} above {above}", "frames_of", number(domain, 32), number(above, 64))
 
-    def epoch(self, newest: int) -> None:
+    def epoch(self, newest: int | Sequence[int]) -> None:
         """Begins the next epoch, if nothing is pending and the newest commit has this number: then the caller has its frame. The trees stay; the log,
-        the report, and what clients had end."""
-        self._call(f"epoch at {newest}", "epoch", number(newest, 64))
+        the report, and what clients had end, mounts too. With devices `newest` has the numbers of all domains; of one without a number nothing is
+        asked."""
+        self._call(f"epoch at {newest}", "epoch_of", *numbers(newest))
+
+    def renew(self, script: Any, newest: int | Sequence[int]) -> Broker:
+        """Begins the next epoch, as `epoch`, with another script: it may have more upgrades behind those of this one, and more devices behind its
+        devices. Returns the broker, with the newest trees of each domain and its numbers; this object is closed then. Else it stays, at the begin of
+        its next epoch if the new script's broker is refused."""
+        with self._lock:
+            domains, version = self.domains, self.version
+            with StandBy(script, self.numbers, self._library._name) as standby:
+                self.epoch(newest)
+                for domain in range(domains):
+                    standby.feed(self.snapshot(domain), domain)
+                broker = standby.lead(version)
+            self.close()
+        return broker
 
     @property
     def version(self) -> int:
@@ -75,6 +106,33 @@ class Broker(Session):
     def left(self) -> int:
         """How many shared calls the log has room for."""
         return self._number("left")
+
+    def waits(self, client: int, slot: int = 0) -> Waiting:
+        """Returns what waits for the client; `slot` is the number of its slots that hold the listener, the receipt and the request. It is no step, and adds
+        nothing to the log."""
+        return Waiting(self._number("waits", number(client, 32), number(slot, 8)))
+
+    def changes(self, client: int, slot: int = 0) -> Iterator[Batch]:
+        """Takes the batches of the listener in the slot while commits wait that it has not seen. It ends when none waits, and may then be called again; a
+        poll in vain adds nothing to the log. A batch has no part if its commits have no change at the listener's path."""
+        while Waiting.CHANGES in self.waits(client, slot):
+            it = self.call(client, ["take", slot])
+            assert isinstance(it, Batch)
+            yield it
+
+    def requests(self, client: int, slot: int = 0) -> Iterator[Request]:
+        """Takes the requests to the client into the slot while one waits: answer each by `answer` before the next one."""
+        while Waiting.REQUEST in self.waits(client, slot):
+            it = self.call(client, ["next-call", slot])
+            assert isinstance(it, Request)
+            yield it
+
+    def notifications(self, client: int) -> Iterator[tuple[str, Any]]:
+        """Takes the notifications to the client while some wait, each as its name and its data."""
+        while Waiting.NOTES in self.waits(client):
+            it = self.call(client, ["take-notes"])
+            assert isinstance(it, Notes)
+            yield from it.notes
 
     def report(self) -> str:
         """Returns the report of all steps so far, as `mdsal sim` writes it."""
@@ -100,22 +158,24 @@ class Broker(Session):
 
 
 class StandBy(Session):
-    """A stand-by of the broker of a script. Its stream begins with the frame of the number `first`, which has all rows: a snapshot."""
+    """A stand-by of the broker of a script. Its stream begins with the frame of the number `first`, which has all rows: a snapshot. With devices `first`
+    may have a number for each of the first domains; the streams of others begin with 0."""
 
-    def __init__(self, script: Any, first: int = 0, library: str | None = None):
+    def __init__(self, script: Any, first: int | Sequence[int] = 0, library: str | None = None):
         super().__init__(library)
         text = bytes_of(script)
-        self._call("follow", "follow", text, len(text), number(first, 64))
+        self._call("follow", "follow_of", text, len(text), *numbers(first))
 
     def __enter__(self) -> StandBy:
         return self
 
-    def feed(self, piece: bytes) -> None:
-        """Takes the next bytes of the stream, cut anywhere."""
-        self._call("feed", "feed", piece, len(piece))
+    def feed(self, piece: bytes, domain: int = 0) -> None:
+        """Takes the next bytes of the domain's stream, cut anywhere."""
+        self._call(f"feed of domain {domain}", "feed_of", number(domain, 32), piece, len(piece))
 
     def lead(self, version: int = 0) -> Broker:
-        """Returns the broker that it becomes, by this version of the schema; this object is closed then. Else it stays as it is."""
+        """Returns the broker that it becomes, by this version of the schema; this object is closed then. Else it stays as it is. A device without a frame
+        begins as in the script; each is mounted anew."""
         with self._lock:
             self._call(f"lead by version {version}", "lead", number(version, 32))
             broker = Broker.__new__(Broker)

@@ -83,9 +83,13 @@ class BadVersion(Error):
     """The script has no such version, or the trees are no trees of it. Nothing was changed."""
 
 
+class BadDomain(Error):
+    """The script has no domain of this number. Nothing was changed."""
+
+
 FAULTS: dict[int, type[Exception]] = {
     6: BadScript, 7: BadSchema, 8: BadOpening, 10: MemoryError, 12: BadStream, 13: BadExport, 21: Closed, 22: IsOpen, 23: BadStep, 24: BadClient,
-    25: Full, 26: Lost, 27: Untold, 28: Broken, 29: IsStandBy, 30: Gone, 31: Pending, 32: NotNewest, 33: Empty, 34: BadVersion,
+    25: Full, 26: Lost, 27: Untold, 28: Broken, 29: IsStandBy, 30: Gone, 31: Pending, 32: NotNewest, 33: Empty, 34: BadVersion, 35: BadDomain,
 }
 
 

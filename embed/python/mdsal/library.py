@@ -3,7 +3,7 @@ import ctypes
 import json
 import os
 import threading
-from typing import Any
+from typing import Any, Sequence
 
 from .errors import fault_of
 from .replies import Data, reply_of
@@ -25,6 +25,15 @@ CALLS = (
     ("number", [], U64),
     ("version", [], U32),
     ("left", [], SIZE),
+    ("waits", [U32, ctypes.c_uint8], U32),
+    ("follow_of", [TEXT, SIZE, ctypes.POINTER(U64), SIZE], U32),
+    ("feed_of", [U32, TEXT, SIZE], U32),
+    ("frames_of", [U32, U64], U32),
+    ("snapshot_of", [U32], U32),
+    ("epoch_of", [ctypes.POINTER(U64), SIZE], U32),
+    ("look_of", [U32, U32, TEXT, SIZE], U32),
+    ("number_of", [U32], U64),
+    ("domains", [], SIZE),
     ("close", [], None),
 )
 # The statuses that have a line.
@@ -64,6 +73,12 @@ def number(it: int, bits: int) -> int:
     return it
 
 
+def numbers(them: int | Sequence[int]) -> tuple[Any, int]:
+    """Returns numbers of the first domains as an array with its length; one number is that of domain 0."""
+    all_of = [number(it, 64) for it in ([them] if isinstance(them, int) else them)]
+    return (U64 * max(1, len(all_of)))(*all_of), len(all_of)
+
+
 class Session:
     """A handle with its lock and the room for texts."""
 
@@ -93,25 +108,40 @@ class Session:
             raise fault_of(status, text.decode() or what)
         return text
 
-    def _number(self, name: str) -> int:
+    def _number(self, name: str, *words: Any) -> int:
         with self._lock:
-            return getattr(self._library, f"mdsal_{name}")(self._handle)
+            return getattr(self._library, f"mdsal_{name}")(self._handle, *words)
 
-    def look(self, store: str, path: str) -> Any:
-        """Returns what is at the path in the newest tree, or `None` if there is nothing. It is no step, and adds nothing to the log."""
+    def look(self, store: str, path: str, domain: int = 0) -> Any:
+        """Returns what is at the path in the newest tree of the domain, or `None` if there is nothing. It is no step, and adds nothing to the log."""
         text = path.encode()
-        it = reply_of(self._call(f"look at {path}", "look", STORES[store], text, len(text)).decode())
+        it = reply_of(self._call(f"look at {path}", "look_of", number(domain, 32), STORES[store], text, len(text)).decode())
         assert isinstance(it, Data)
         return it.value
 
-    def snapshot(self) -> bytes:
-        """Returns one frame with all rows: that of the newest commit. A stream may begin with it."""
-        return self._call("snapshot", "snapshot")
+    def snapshot(self, domain: int = 0) -> bytes:
+        """Returns one frame with all rows: that of the domain's newest commit. A stream may begin with it."""
+        return self._call(f"snapshot of domain {domain}", "snapshot_of", number(domain, 32))
 
     @property
     def number(self) -> int:
-        """The number of the newest commit, or of the last frame; 0 if there is none."""
+        """The number of the newest commit of domain 0, the controller's own, or of its last frame; 0 if there is none."""
         return self._number("number")
+
+    def number_of(self, domain: int) -> int:
+        """Returns the number of the domain's newest commit, or of its last frame; 0 if there is none."""
+        return self._number("number_of", number(domain, 32))
+
+    @property
+    def numbers(self) -> list[int]:
+        """The numbers of the newest commits, or of the last frames, of all domains."""
+        with self._lock:
+            return [self.number_of(it) for it in range(self.domains)]
+
+    @property
+    def domains(self) -> int:
+        """How many domains there are: the controller's own, and one for each device."""
+        return self._number("domains")
 
     def _reply(self) -> bytes:
         while True:

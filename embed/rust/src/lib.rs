@@ -13,8 +13,10 @@
 //! without a reply returns an [`Error`]. A [`Broker`] and a [`StandBy`] may move to another thread; to share one, use a `Mutex`. It is closed when it is
 //! dropped.
 mod reply;
+mod waiting;
 
 pub use reply::Outcome;
+pub use waiting::Waiting;
 
 use std::fmt;
 use std::ptr;
@@ -40,6 +42,27 @@ unsafe extern "C" {
     fn mdsal_number(handle: &mut Handle) -> u64;
     fn mdsal_version(handle: &mut Handle) -> u32;
     fn mdsal_left(handle: &mut Handle) -> usize;
+    fn mdsal_waits(handle: &mut Handle, client: u32, slot: u8) -> u32;
+    fn mdsal_frames_of(handle: &mut Handle, domain: u32, above: u64) -> u32;
+    fn mdsal_snapshot_of(handle: &mut Handle, domain: u32) -> u32;
+    fn mdsal_look_of(
+        handle: &mut Handle,
+        domain: u32,
+        store: u32,
+        path: *const u8,
+        length: usize,
+    ) -> u32;
+    fn mdsal_feed_of(handle: &mut Handle, domain: u32, bytes: *const u8, length: usize) -> u32;
+    fn mdsal_number_of(handle: &mut Handle, domain: u32) -> u64;
+    fn mdsal_epoch_of(handle: &mut Handle, newest: *const u64, count: usize) -> u32;
+    fn mdsal_follow_of(
+        handle: &mut Handle,
+        script: *const u8,
+        length: usize,
+        firsts: *const u64,
+        count: usize,
+    ) -> u32;
+    fn mdsal_domains(handle: &mut Handle) -> usize;
     fn mdsal_close(handle: &mut Handle);
 }
 
@@ -83,6 +106,8 @@ pub enum Error {
     Empty,
     /// The script has no such version, or the trees are no trees of it.
     BadVersion,
+    /// The script has no domain of this number.
+    BadDomain,
     /// A step of [`Broker::commit`] or [`Broker::update`] was refused; with its reply.
     Refused(String),
     /// A status that this crate does not know.
@@ -110,6 +135,7 @@ impl Error {
             32 => Error::NotNewest,
             33 => Error::Empty,
             34 => Error::BadVersion,
+            35 => Error::BadDomain,
             other => Error::Other(other),
         }
     }
@@ -129,6 +155,7 @@ impl fmt::Display for Error {
             Error::NotNewest => f.write_str("the newest commit has another number"),
             Error::Empty => f.write_str("the stand-by has no frame yet"),
             Error::BadVersion => f.write_str("the trees are no trees of this version"),
+            Error::BadDomain => f.write_str("the script has no domain of this number"),
             Error::NoMemory => f.write_str("memory ran out, and the step was not made"),
             Error::Closed => f.write_str("the broker was broken by an earlier step"),
             Error::BadStep => f.write_str("the bytes are no step"),
@@ -197,15 +224,37 @@ impl Session {
         self.answered(status).map(told)
     }
 
+    fn look_of(&mut self, domain: u32, store: Store, path: &str) -> Result<String, Error> {
+        let (handle, store) = (&mut self.handle, store as u32);
+        // SAFETY: the handle is used by one call at a time; the pointer and the length are those of a slice.
+        let status = unsafe { mdsal_look_of(handle, domain, store, path.as_ptr(), path.len()) };
+        self.answered(status).map(told)
+    }
+
     fn snapshot(&mut self) -> Result<Vec<u8>, Error> {
         // SAFETY: the handle is used by one call at a time.
         let status = unsafe { mdsal_snapshot(&mut self.handle) };
         self.answered(status)
     }
 
+    fn snapshot_of(&mut self, domain: u32) -> Result<Vec<u8>, Error> {
+        // SAFETY: the handle is used by one call at a time.
+        let status = unsafe { mdsal_snapshot_of(&mut self.handle, domain) };
+        self.answered(status)
+    }
+
     fn number(&mut self) -> u64 {
         // SAFETY: the handle is used by one call at a time.
         unsafe { mdsal_number(&mut self.handle) }
+    }
+
+    fn numbers(&mut self) -> Vec<u64> {
+        // SAFETY: the handle is used by one call at a time.
+        let domains = unsafe { mdsal_domains(&mut self.handle) } as u32;
+        // SAFETY: the same.
+        (0..domains)
+            .map(|it| unsafe { mdsal_number_of(&mut self.handle, it) })
+            .collect()
     }
 }
 
@@ -242,6 +291,22 @@ impl Broker {
         // SAFETY: the handle is this broker's, used by one call at a time; the pointer and the length are those of a slice.
         let status = unsafe { mdsal_step(handle, client, step.as_ptr(), step.len()) };
         self.session.answered(status).map(told)
+    }
+
+    /// Makes the steps of a client in turn, and returns the texts of their replies; or those before the first step that is not made, and why it is not.
+    pub fn steps<S: AsRef<[u8]>>(
+        &mut self,
+        client: u32,
+        steps: impl IntoIterator<Item = S>,
+    ) -> Result<Vec<String>, (Vec<String>, Error)> {
+        let mut told = Vec::new();
+        for step in steps {
+            match self.step(client, step) {
+                Ok(reply) => told.push(reply),
+                Err(error) => return Err((told, error)),
+            }
+        }
+        Ok(told)
     }
 
     /// Makes the client's next step, and returns the text of its reply; a refusal is an error.
@@ -296,9 +361,30 @@ impl Broker {
         self.session.answered(status)
     }
 
+    /// The frames of a domain's commits with numbers above this one: 0 is the controller's own, the devices have the numbers from 1 on.
+    pub fn frames_of(&mut self, domain: u32, above: u64) -> Result<Vec<u8>, Error> {
+        // SAFETY: the handle is this broker's, used by one call at a time.
+        let status = unsafe { mdsal_frames_of(&mut self.session.handle, domain, above) };
+        self.session.answered(status)
+    }
+
     /// The frame of the newest commit, with all rows: a stream may begin with it.
     pub fn snapshot(&mut self) -> Result<Vec<u8>, Error> {
         self.session.snapshot()
+    }
+
+    /// The same of a domain.
+    pub fn snapshot_of(&mut self, domain: u32) -> Result<Vec<u8>, Error> {
+        self.session.snapshot_of(domain)
+    }
+
+    /// Begins the next epoch as [`Broker::epoch`], by the numbers of the newest commits of the first domains: those of all, if the frames of devices
+    /// are kept.
+    pub fn epoch_of(&mut self, newest: &[u64]) -> Result<(), Error> {
+        // SAFETY: the handle is this broker's, used by one call at a time; the pointer and the length are those of a slice.
+        let status =
+            unsafe { mdsal_epoch_of(&mut self.session.handle, newest.as_ptr(), newest.len()) };
+        self.session.answered(status).map(drop)
     }
 
     /// Begins the next epoch, if nothing is pending and the newest commit has this number.
@@ -313,15 +399,68 @@ impl Broker {
         self.session.look(store, path)
     }
 
+    /// The text of a read in the newest tree of a domain.
+    pub fn look_of(&mut self, domain: u32, store: Store, path: &str) -> Result<String, Error> {
+        self.session.look_of(domain, store, path)
+    }
+
     /// The number of the newest commit.
     pub fn number(&mut self) -> u64 {
         self.session.number()
+    }
+
+    /// The numbers of the newest commits of all domains.
+    pub fn numbers(&mut self) -> Vec<u64> {
+        self.session.numbers()
     }
 
     /// The present version of the schema, as the script counts: for [`StandBy::lead`].
     pub fn version(&mut self) -> u32 {
         // SAFETY: the handle is this broker's, used by one call at a time.
         unsafe { mdsal_version(&mut self.session.handle) }
+    }
+
+    /// What waits for the client; `slot` is the number of its slots that hold the listener, the receipt and the request. It is no step, and adds
+    /// nothing to the log.
+    pub fn waits(&mut self, client: u32, slot: u8) -> Waiting {
+        // SAFETY: the handle is this broker's, used by one call at a time.
+        Waiting::of(unsafe { mdsal_waits(&mut self.session.handle, client, slot) })
+    }
+
+    /// Makes the step, if something waits for it: the step that takes it, such as `["take",0]` for [`Waiting::changes`]. A poll in vain adds nothing to
+    /// the log.
+    fn taken(
+        &mut self,
+        client: u32,
+        slot: u8,
+        waits: impl Fn(Waiting) -> bool,
+        step: &str,
+    ) -> Result<Option<String>, Error> {
+        if !waits(self.waits(client, slot)) {
+            return Ok(None);
+        }
+        self.made(client, step).map(Some)
+    }
+
+    /// The next batch of the listener in the slot, if it has commits to see.
+    pub fn changes(&mut self, client: u32, slot: u8) -> Result<Option<String>, Error> {
+        self.taken(
+            client,
+            slot,
+            |it| it.changes,
+            &format!(r#"["take",{slot}]"#),
+        )
+    }
+
+    /// The next request to the client, if one waits; it is then in the slot.
+    pub fn request(&mut self, client: u32, slot: u8) -> Result<Option<String>, Error> {
+        let step = format!(r#"["next-call",{slot}]"#);
+        self.taken(client, slot, |it| it.request, &step)
+    }
+
+    /// The notifications to the client, if some wait.
+    pub fn notifications(&mut self, client: u32) -> Result<Option<String>, Error> {
+        self.taken(client, 0, |it| it.notes, r#"["take-notes"]"#)
     }
 
     /// How many shared calls the log has room for.
@@ -348,6 +487,26 @@ impl StandBy {
         Ok(StandBy { session })
     }
 
+    /// The same before streams that begin with the frames of these numbers, of domain 0 first: that of a domain without a number begins with 0.
+    pub fn open_of(script: impl AsRef<[u8]>, firsts: &[u64]) -> Result<StandBy, Error> {
+        let mut session = Session::closed();
+        let (handle, script) = (&mut session.handle, script.as_ref());
+        let (bytes, length) = (script.as_ptr(), script.len());
+        // SAFETY: the handle is zeros; the pointers and the lengths are those of slices.
+        let status =
+            unsafe { mdsal_follow_of(handle, bytes, length, firsts.as_ptr(), firsts.len()) };
+        session.answered(status)?;
+        Ok(StandBy { session })
+    }
+
+    /// Takes the next bytes of a domain's stream, cut anywhere.
+    pub fn feed_of(&mut self, domain: u32, bytes: impl AsRef<[u8]>) -> Result<(), Error> {
+        let (handle, bytes) = (&mut self.session.handle, bytes.as_ref());
+        // SAFETY: the handle is used by one call at a time; the pointer and the length are those of a slice.
+        let status = unsafe { mdsal_feed_of(handle, domain, bytes.as_ptr(), bytes.len()) };
+        self.session.answered(status).map(drop)
+    }
+
     /// Takes the next bytes of the stream, cut anywhere.
     pub fn feed(&mut self, bytes: impl AsRef<[u8]>) -> Result<(), Error> {
         let (handle, bytes) = (&mut self.session.handle, bytes.as_ref());
@@ -366,9 +525,24 @@ impl StandBy {
         self.session.look(store, path)
     }
 
+    /// The frame of a domain's commit, with all rows.
+    pub fn snapshot_of(&mut self, domain: u32) -> Result<Vec<u8>, Error> {
+        self.session.snapshot_of(domain)
+    }
+
+    /// The text of a read in a tree of a domain.
+    pub fn look_of(&mut self, domain: u32, store: Store, path: &str) -> Result<String, Error> {
+        self.session.look_of(domain, store, path)
+    }
+
     /// The number of its last frame; 0 before the first one.
     pub fn number(&mut self) -> u64 {
         self.session.number()
+    }
+
+    /// The numbers of the last frames of all domains.
+    pub fn numbers(&mut self) -> Vec<u64> {
+        self.session.numbers()
     }
 
     /// The broker that it becomes, by this version of the schema; or why it does not, and the stand-by as it was.

@@ -4,10 +4,7 @@ ghost use Rattle.std.specs.Prelude.{◌≡◌, ◌≤◌, true, length};
 use crate::counter::{Counter, LAST_NUMBER, count, device, number_in, schema};
 use anyhow::bail;
 use crossbeam_channel::Sender;
-use sal::{Bytes, Hub, Rules};
-use sal_epoch::next_hub;
-use sal_follow::NextFrame;
-use sal_resume::frames_on;
+use sal::{Bytes, Hub, NextFrame, Rules, frames_on, next_hub};
 use std::alloc::Global;
 use std::sync::{Arc, Wait};
 

@@ -1,13 +1,12 @@
 //! The stand-by: one follower through all epochs.
 ghost use Rattle.std.specs.Prelude.{◌≡◌, ◌+◌, ◌<◌, ◌^◌, IfOk, length};
-ghost use Rattle.sal_follow.specs.Fed.{IsFedBy};
+ghost use Rattle.sal.specs.Fed.{IsFedBy};
 
 use super::controller::Piece;
 use crate::counter::{number_in, schema};
 use anyhow::bail;
 use crossbeam_channel::Receiver;
-use sal::{Patterns, Store};
-use sal_follow::{FollowFault, Follower, laws};
+use sal::{FollowFault, Follower, Patterns, Store, places_count_bytes};
 use std::alloc::Global;
 use std::sync::{Arc, Wait};
 
@@ -72,7 +71,7 @@ fn feed_behind(follower: &mut Follower, before: u64, piece: &[u8]) -> Result<(),
     requires few { before + length piece.now < 2 ^ 64 }
     ensures { IsFedBy (before + length piece.now) follower.new }
 {
-    laws::places_count_bytes();
+    places_count_bytes();
     match follower.feed(piece) {
         Ok(_) => Ok(()),
         Err(fault) => Err(fault),

@@ -6,12 +6,13 @@ use Rattle.sal_cluster.specs.Leaders.{Sends}
 use Rattle.sal_cluster.proofs.Sending.{sends_none}
 use Rattle.sal_cluster.proofs.leader.past_all.Goals as goal
 
-pub returns-then-newest-above : goal.returns-then-newest-above
-returns-then-newest-above c = (c.requires, (Err NoMemory, tt, refl))
+pub returns-then-newest_of-above : goal.returns-then-newest_of-above
+returns-then-newest_of-above c = (c.requires.low, (Err NoMemory, tt, refl))
 
 pub returns : goal.returns
 returns c =
     let h = c.args.hub.now in
-    let newest = c.newest.ensures in
-    let past : length (commits (history h.world h.log) 0) ≤ c.args.above - c.args.base = omega (arith, newest) in
-    subst (λ (bytes : List ℕ). Sends h c.args.base c.args.above (Ok bytes)) (sym (c.from_items.ensures ∙ c.new.ensures.items)) (sends_none h c.args.base c.args.above c.requires past)
+    let n = c.args.domain in
+    let newest = c.newest_of.ensures in
+    let past : length (commits (history h.world h.log) n) ≤ c.args.above - c.args.base = omega (arith, newest) in
+    subst (λ (bytes : List ℕ). Sends h n c.args.base c.args.above (Ok bytes)) (sym (c.from_items.ensures ∙ c.new.ensures.items)) (sends_none h n c.args.base c.args.above c.requires.low past)

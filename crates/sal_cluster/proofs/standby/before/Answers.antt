@@ -1,13 +1,9 @@
--- The schema is the last version.
+-- The schema is shared.
 use Rattle.std.proofs.Common.{ap, ◌∙◌}
-use Rattle.sal_json.specs.Patterns.{patterns_of}
 use Rattle.sal_schema.specs.declared.table.SchemaTable.{SchemaTable}
 use Rattle.sal_follow.specs.States.{Following}
 use Rattle.sal_follow.specs.Stream.{fresh_at}
 use Rattle.sal_cluster.proofs.standby.before.Goals as goal
-
-pub before-requires : goal.before-requires
-before-requires c = c.in_ok-patterns.ensures ∙ ap patterns_of c.deref.ensures
 
 pub returns : goal.returns
 returns c =

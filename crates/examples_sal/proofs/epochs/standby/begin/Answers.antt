@@ -1,7 +1,7 @@
 -- Nothing came yet.
 use Rattle.std.proofs.Common.{ap}
-use Rattle.sal_follow.specs.States.{Following}
-use Rattle.sal_follow.proofs.Counted.{new_fed}
+use Rattle.sal.specs.Followers.{Following}
+use Rattle.sal.proofs.Counted.{new_fed}
 use Rattle.examples_sal.proofs.epochs.standby.begin.Goals as goal
 
 pub returns : goal.returns

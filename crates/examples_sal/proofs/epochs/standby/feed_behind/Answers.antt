@@ -1,6 +1,6 @@
 -- The bytes before, and then those of the piece.
 use Rattle.std.proofs.Common.{length}
-use Rattle.sal_follow.proofs.Counted.{has_room, more_fed}
+use Rattle.sal.proofs.Counted.{has_room, more_fed}
 use Rattle.examples_sal.proofs.epochs.standby.feed_behind.Goals as goal
 
 pub feed-requires : goal.feed-requires

@@ -1,5 +1,5 @@
 -- The follower has received `fed` bytes.
-use Rattle.sal_follow.specs.Fed.{IsFedBy}
+use Rattle.sal.specs.Fed.{IsFedBy}
 use Rattle.examples_sal.proofs.epochs.standby.follow.Given as goal
 
 abbrev pub invariant-loop : goal.invariant-loop

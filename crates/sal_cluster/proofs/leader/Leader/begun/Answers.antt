@@ -13,16 +13,15 @@ pub begun_anew-broker-requires-clause-readers : goal.begun_anew-broker-requires-
 begun_anew-broker-requires-clause-readers c = c.into_hub.ensures.readers ∙ ap (λ (h : HubHistory). versions_of h.world) (sym c.into_hub.ensures.hub)
 
 pub begun_anew-broker-requires-clause-past : goal.begun_anew-broker-requires-clause-past
-begun_anew-broker-requires-clause-past c = c.past_of-past.ensures ∙ ap version_of (c.hub.ensures ∙ sym c.into_hub.ensures.hub)
+begun_anew-broker-requires-clause-past c = c.past-past.ensures.version ∙ ap version_of (sym c.into_hub.ensures.hub)
 
 pub returns : goal.returns
 returns c =
     let same = c.into_hub.ensures.hub in
     record {
-      rules = c.past_of-past.result.rules;
-      hub = c.begun_anew-broker.ensures.hub ∙ ap (next_hub c.past_of-past.result.rules) same;
+      hub = c.begun_anew-broker.ensures.hub ∙ (λ i. next_hub (c.past-past.ensures.rules i) (same i));
       newest = subst (λ (h : HubHistory). OpensAtTheNewest h c.begun_anew-broker.result.hub.world) same c.begun_anew-broker.ensures.newest;
-      base = c.requires;
+      bases = c.moved_on-bases.ensures;
       version = c.present-version.ensures;
       reads = c.begun_anew-broker.ensures.reads ∙ c.into_hub.ensures.reads;
       begun = c.begun_anew-broker.ensures.begun;

@@ -8,4 +8,5 @@ use Rattle.sal_cluster.proofs.leader.Leader.snapshot.Goals as goal
 pub returns-in-Some : goal.returns-in-Some
 returns-in-Some c =
     let h = c.args.self.now.broker.hub in
-    subst (λ (n : ℕ). IsSnapshot (table_sent h) n (newest h 0) c.newest_frame.result) c.in-Some.ensures.1 c.newest_frame.ensures
+    let n = c.args.domain in
+    subst (λ (m : ℕ). IsSnapshot (table_sent h n) m (newest h n) c.newest_frame.result) c.in-Some.ensures.1 c.newest_frame.ensures

@@ -6,4 +6,4 @@ use Rattle.sal_session.proofs.session.Session.epoch.Goals as goal
 pub returns-in-Broker : goal.returns-in-Broker
 returns-in-Broker c =
     let leader = c.begun-leader.result.0 in
-    begun_open c.args.self.now.role c.args.newest _ c.begun-leader.result.1 c.in-Broker.leader leader c.in-Broker.ensures.value c.begun-leader.ensures refl c.nothing.ensures
+    begun_open c.args.self.now.role c.args.newest.now _ c.begun-leader.result.1 c.in-Broker.leader leader c.in-Broker.ensures.value c.begun-leader.ensures refl c.nothing.ensures

@@ -232,6 +232,22 @@ uint32_t mdsal_version(mdsal *handle);
 size_t mdsal_left(mdsal *handle);
 
 /*
+** What waits for a client of a broker, as the sum of these. `slot` is the number of a slot, as in the client's steps. Each bit is set if and only if the
+** step would give something now:
+*/
+#define MDSAL_REQUEST 1u  /* ["next-call",slot] would give a request */
+#define MDSAL_NOTES 2u    /* ["take-notes"] would give a notification */
+#define MDSAL_ANSWER 4u   /* ["collect",slot] would give the answer to the request in the slot */
+#define MDSAL_DECIDED 8u  /* the submission whose receipt is in the slot is decided: ["settle",slot] would give its outcome, and decide nothing */
+#define MDSAL_CHANGES 16u /* the batch of ["take",slot] would go beyond the one before: its domain has commits, which may have no change at its path */
+
+/*
+** It is no step: it adds nothing to the log or the report, takes no memory, and the text stays. So a program may poll as often as it likes. It is 0 if
+** there is no broker, for a lost client, and for MDSAL_CLIENTS or more.
+*/
+uint32_t mdsal_waits(mdsal *handle, uint32_t client, uint8_t slot);
+
+/*
 ** The same calls for any domain: 0 is the controller's own, and the devices have the numbers from 1 on, as in the script. Each domain has a stream
 ** with numbers of its own. A call of domain 0 does what the call without _of does.
 **

@@ -1,12 +1,14 @@
 """The tests of tools/embed for the Python module and for an installed library, beside those of embedded.py: each takes the library's folder and a folder
 for its output."""
 import os
+import random
 import re
 import shutil
 import subprocess
 import sys
 
-from embedded import EMBED, Absent, Differs, example, library, needed, ran, same
+from embedded import EMBED, SANITIZERS, Absent, Differs, compiled, example, library, needed, ran, same, sanitizing
+from embedded_streams import raises
 from kit import ROOT
 
 
@@ -47,6 +49,98 @@ def installed(prefix, room, is_wrong=False):
     shutil.copy(f"{EMBED}/python/two_clients.py", f"{room}/two_clients.py")
     example("installed Python", [sys.executable, f"{room}/two_clients.py", f"{EMBED}/two_clients.json"], is_wrong, env=env)
     return "the example in C and in Python, over an installed library: by pkg-config, by the soname, by pip without a network"
+
+
+# ---- what waits for a client
+
+def waits(folder, room, flags=()):
+    ran([compiled("waits", folder, room, ("-O2", *flags))])
+    return "C: what waits for a client, bit by bit, before and after the step that takes it"
+
+
+def waits_sanitized(folder, room, flags=()):
+    compiler = sanitizing(room)
+    ran([compiled("waits", folder, room, (*SANITIZERS, *flags), compiler)])
+    return f"C: the same under the sanitizers of {compiler}: no error, no leak"
+
+
+POLLED = """module p { namespace 'urn:p'; prefix p; leaf a { type string; } leaf b { type string; }
+  rpc go { input { leaf x { type string; } } output { leaf y { type string; } } } notification hot { leaf t { type string; } } }"""
+
+
+def polled(folder, room, is_wrong=False):
+    """Iterators over what waits: each takes all that is there, and a poll in vain adds nothing to the log."""
+    mdsal = library(folder)
+    with mdsal.Broker({"modules": [POLLED]}) as broker:
+        broker.steps(1, [["listen", 7, 0, "config", "/p:a"], ["provide", "p:go", None], ["subscribe", "p:hot"]])
+        left = broker.left
+        for _ in range(3):
+            same("polls in vain", [[*broker.changes(1, 7)], [*broker.requests(1)], [*broker.notifications(1)], broker.waits(1, 7)], [[], [], [], 0])
+        same("the log after polls in vain", broker.left, left)
+        for step in (["put", 0, "config", "/p:a", "x"], ["put", 0, "config", "/p:b", "y"], ["delete", 0, "config", "/p:a"]):
+            broker.steps(0, [["begin", 0, 0, "rw"], step, ["submit", 0], ["settle", 0]])
+        same("a flag", (broker.waits(1, 7), broker.waits(0)), (mdsal.Waiting.CHANGES, mdsal.Waiting.DECIDED | is_wrong))
+        seen = [(change.before, change.after) for it in broker.changes(1, 7) for part in it.parts for change in part.changes]
+        same("the changes", (seen, [*broker.changes(1, 7)]), ([(None, "x"), ("x", None)], []))
+        for text in ("1", "2"):
+            broker.call(0, ["invoke", int(text), "p:go", None, {"x": text}])
+            broker.call(0, ["offer", "p:hot", {"t": text}])
+        same("flags", (broker.waits(1, 7), broker.waits(0, 1)), (mdsal.Waiting.REQUEST | mdsal.Waiting.NOTES, 0))
+        for request in broker.requests(1, 3):
+            broker.call(1, ["answer", 3, {"y": request.input["x"] * 2}])
+        same("the answers", [(broker.waits(0, it), broker.call(0, ["collect", it]).value) for it in (1, 2)], [(mdsal.Waiting.ANSWER, {"y": it}) for it in ("11", "22")])
+        same("the notifications", [*broker.notifications(1)], [("p:hot", {"t": "1"}), ("p:hot", {"t": "2"})])
+        same("at the end", (broker.waits(1, 7), broker.waits(65535, 255)), (0, 0))
+        for words in ((-1, 0), (1 << 32, 0), (0, 256), (0, -1)):
+            raises(OverflowError, broker.waits, *words)
+    same("of a closed broker", broker.waits(1, 7), 0)
+    return "Python: iterators over changes, requests and notifications; polls in vain add nothing to the log"
+
+
+def random_step(dice):
+    """Returns a client and one of the steps that change what waits."""
+    slot, text = dice.randrange(2), dice.choice("xyz")
+    return dice.randrange(3), dice.choice((
+        ["begin", slot, 0, "rw"], ["put", slot, "config", f"/p:{dice.choice('ab')}", text], ["submit", slot], ["submit", slot], ["settle", slot], ["pump"],
+        ["listen", slot, 0, "config", dice.choice(["/p:a", "/p:b"])], ["take", slot], ["unlisten", slot], ["provide", "p:go", None], ["withdraw", "p:go", None],
+        ["invoke", slot, "p:go", None, {"x": text}], ["next-call", slot], ["answer", slot, {"y": text}], ["collect", slot],
+        ["subscribe", "p:hot"], ["offer", "p:hot", {"t": text}], ["take-notes"],
+    ))
+
+
+def flags_by_steps(mdsal, made, receipts, client, slot):
+    """What waits for the client, by the steps that take it: each is made once by another broker, behind the same steps."""
+    def replies(*steps):
+        with mdsal.Broker({"modules": [POLLED]}) as other:
+            for it in made:
+                other.step(*it)
+            return other.steps(client, steps)
+
+    batch, flags = replies(["take", slot])[0].split(" "), mdsal.Waiting
+    undecided = [f"decided {receipts.get((client, slot))} " in it for it in replies(*[["pump"]] * len(receipts))]
+    given = {
+        flags.REQUEST: replies(["next-call", slot])[0].startswith("request "), flags.NOTES: replies(["take-notes"]) != ["notes []"],
+        flags.ANSWER: replies(["collect", slot])[0].startswith("output "), flags.DECIDED: (client, slot) in receipts and not any(undecided),
+        flags.CHANGES: batch[0] == "batch" and int(batch[1]) < int(batch[2]),
+    }
+    return sum(flag for flag, is_set in given.items() if is_set)
+
+
+def polled_as_made(folder, room, is_wrong=False):
+    """Behind random steps each flag is what the step then gives."""
+    mdsal, dice, made, receipts, seen = library(folder), random.Random(1), [], {}, set()
+    with mdsal.Broker({"modules": [POLLED]}) as broker:
+        for _ in range(160):
+            client, step = random_step(dice)
+            told = broker.step(client, step)
+            made.append((client, step))
+            if told.startswith("receipt "):
+                receipts[client, step[1]] = int(told.split(" ")[1])
+            for slot in range(2):
+                wanted = flags_by_steps(mdsal, made, receipts, client, slot)
+                same(f"what waits for client {client} in slot {slot} behind {len(made)} steps", int(broker.waits(client, slot)), wanted ^ is_wrong)
+                seen.add(wanted)
+    return f"Python: what waits is what the steps give, behind each of {len(made)} random ones, in {len(seen)} combinations"
 
 
 # ---- replies with fields

@@ -67,7 +67,7 @@ static void commit_on_device(mdsal *broker) {
     commit_in(broker, "[\"begin\",0,1,\"rw\"]", "[\"put\",0,\"config\",\"/d:n\",\"y\"]");
 }
 
-/* A broker that opens, sends a frame and begins an epoch, which takes no memory. */
+/* A broker that opens, sends a frame and begins an epoch, which takes no memory; nor does a look for what waits. */
 static void leads(mdsal *broker) {
     AGAIN(broker, mdsal_open(broker, T(SCRIPT)));
     AGAIN(broker, mdsal_snapshot(broker));
@@ -85,6 +85,7 @@ static void leads(mdsal *broker) {
     AGAIN(broker, mdsal_look_of(broker, 1, 0, T("/d:n")));
     CHECK(said("data \"y\""));
     unsigned long before = allocations;
+    CHECK(mdsal_waits(broker, 0, 0) == MDSAL_DECIDED && mdsal_waits(broker, 7, 0) == 0 && allocations == before);
     uint64_t newest[] = {1, 1};
     CHECK(mdsal_epoch_of(broker, newest, 2) == MDSAL_OK && mdsal_number_of(broker, 1) == 1 && allocations == before);
 #ifdef WRONG

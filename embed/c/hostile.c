@@ -15,6 +15,7 @@ static void closed(mdsal *broker) {
     CHECK(stepped(broker, 0, "[\"pump\"]") == MDSAL_NOT_OPEN && said(""));
     CHECK(mdsal_report(broker) == MDSAL_NOT_OPEN);
     CHECK(mdsal_reply(broker, text, sizeof text) == 0);
+    CHECK(mdsal_waits(broker, 0, 0) == 0 && mdsal_waits(broker, UINT32_MAX, 255) == 0);
     mdsal_close(broker);
     CHECK(!broker->full && broker->at == NULL);
     mdsal_close(broker);
@@ -150,6 +151,7 @@ static void many(mdsal *broker, unsigned long steps) {
         CHECK(stepped(broker, 0, "[\"settle\",0]") == MDSAL_OK && said("refused empty-slot"));
         CHECK(stepped(broker, 0, "[\"submit\",0]") == MDSAL_FULL && said(""));
         CHECK(stepped(broker, 0, "[\"read\",0,\"config\",\"/plain:box/a\"]") == MDSAL_OK && said("data \"x\""));
+        CHECK(mdsal_waits(broker, 0, 0) == 0 && mdsal_waits(broker, 3, 0) == 0 && mdsal_left(broker) == 0);
         CHECK(mdsal_report(broker) == MDSAL_OK);
         printf("a report of %zu bytes\n", mdsal_reply(broker, text, sizeof text));
     }

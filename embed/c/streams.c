@@ -72,7 +72,7 @@ static void standby_refuses(mdsal *standby, bool is_empty) {
     CHECK(kept(standby, mdsal_report(standby)) == MDSAL_IS_STANDBY && said(""));
     CHECK(kept(standby, mdsal_frames(standby, 0)) == MDSAL_IS_STANDBY && said(""));
     CHECK(kept(standby, mdsal_epoch(standby, 0)) == MDSAL_IS_STANDBY && said(""));
-    CHECK(mdsal_version(standby) == 0 && mdsal_left(standby) == 0);
+    CHECK(mdsal_version(standby) == 0 && mdsal_left(standby) == 0 && mdsal_waits(standby, 0, 0) == 0);
     if (is_empty) {
         CHECK(kept(standby, mdsal_snapshot(standby)) == MDSAL_EMPTY && said(""));
         CHECK(looked(standby, 0, "/") == MDSAL_EMPTY && said("") && looked(standby, 2, "/") == MDSAL_EMPTY);

@@ -19,21 +19,22 @@ def react(broker: mdsal.Broker) -> None:
     """A client listens, another one changes the tree."""
     broker.call(SERVICE, ["listen", 0, 0, "config", "/net:net"])
     broker.update(lambda t: t.put("config", "/net:net/name", "lab"), client=APP)
-    for part in broker.call(SERVICE, ["take", 0]).parts:
-        for change in part.changes:
-            print(part.commit, part.kind, change.path, change.before, change.after)
+    for batch in broker.changes(SERVICE):
+        for part in batch.parts:
+            for change in part.changes:
+                print(part.commit, part.kind, change.path, change.before, change.after)
 
 
 def answer(broker: mdsal.Broker) -> None:
     """A client calls an RPC, its provider answers; then it is told of an alarm."""
     broker.call(SERVICE, ["provide", "net:restart", None])
     broker.call(APP, ["invoke", 0, "net:restart", None, {"node": "s1"}])
-    while isinstance(request := broker.call(SERVICE, ["next-call", 0]), mdsal.replies.Request):
+    for request in broker.requests(SERVICE):
         broker.call(SERVICE, ["answer", 0, {"ok": request.input["node"] == "s1"}])
     print(broker.call(APP, ["collect", 0]).value)
     broker.call(APP, ["subscribe", "net:alarm"])
     broker.call(SERVICE, ["offer", "net:alarm", {"text": "hot"}])
-    print(broker.call(APP, ["take-notes"]).notes)
+    print([*broker.notifications(APP)])
 
 
 def connect(broker: mdsal.Broker) -> None:

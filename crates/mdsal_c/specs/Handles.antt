@@ -90,3 +90,8 @@ version_in held = in_role streams.version_in held
 
 abbrev pub left_in : Option Session → ℕ
 left_in held = in_role streams.left_in held
+
+-- what waits for client c at this number of its slots, as bits
+abbrev pub WaitsIf : Option Session → ℕ → ℕ → ℕ → Type 0
+WaitsIf None c slot n = n ≡ 0
+WaitsIf (Some it) c slot n = session.WaitsIn it.role c slot n

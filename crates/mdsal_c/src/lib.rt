@@ -5,7 +5,7 @@
 ghost use Rattle.std.specs.Prelude.{◌≡◌, ◌++◌, [], ◌∷◌, drop, length, min, take};
 ghost use Rattle.std.specs.declared.option.Option.TheVariants.{None};
 ghost use Rattle.mdsal_c.specs.Handles.{EpochIf, FeedsIf, FollowsIf, FramesIf, LeadsIf, LooksIf, OpensIf};
-ghost use Rattle.mdsal_c.specs.Handles.{ReportsIf, SnapshotsIf, StepsIf, domains_in, left_in, number_in, reply_of, version_in};
+ghost use Rattle.mdsal_c.specs.Handles.{ReportsIf, SnapshotsIf, StepsIf, WaitsIf, domains_in, left_in, number_in, reply_of, version_in};
 
 mod handle;
 mod held;
@@ -202,6 +202,23 @@ pub extern "C" fn mdsal_version(alloc: Global, handle: &mut Mdsal) -> u32
             let (session, number) = loose::version(session);
             handle.put(session);
             number
+        }
+        None => 0,
+    }
+}
+
+/// What waits for a client of a broker at this number of its slots, as bits; else 0.
+#[unsafe(no_mangle)]
+pub extern "C" fn mdsal_waits(alloc: Global, handle: &mut Mdsal, client: u32, slot: u8) -> u32
+    ensures bits { WaitsIf handle.old.held.value client slot result }
+    ensures same { handle.new.held.value ≡ handle.old.held.value }
+{
+    let taken = handle.take(alloc);
+    match taken {
+        Some(session) => {
+            let (session, bits) = loose::waits(session, client, slot);
+            handle.put(session);
+            bits
         }
         None => 0,
     }

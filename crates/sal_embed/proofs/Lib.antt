@@ -4,10 +4,11 @@ mod Emptiness
 mod Following
 mod Longer
 mod Made
-mod Opened
 mod OneStep
+mod Opened
 mod Placed
 mod Script
+mod Slots
 mod Standing
 mod Telling
 mod Turns

@@ -5,4 +5,5 @@ pub mod Laws
 pub mod Opening
 pub mod Outcomes
 pub mod Scripts
+pub mod Waiting
 pub mod Whole

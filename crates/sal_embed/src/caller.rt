@@ -9,9 +9,11 @@ ghost use Rattle.sal_script.specs.Moves.{move_of};
 ghost use Rattle.sal_script.specs.Tables.{tables_of, versions_of};
 ghost use Rattle.sal_embed.specs.Broker.{Follows, IsCaller, untold};
 ghost use Rattle.sal_embed.specs.Callers.{Fails, IsFinished, IsForgotten, IsFresh, IsLetGo, IsMade, IsTold, Steps, Waits, line_with};
+ghost use Rattle.sal_embed.specs.Waiting.{waiting_for};
 
 use crate::fault::StepFault;
 use crate::stepping::step_client;
+use crate::waiting::{Waiting, waiting_in};
 use sal_client::{ClientRun, Readers, RunFault};
 use sal_hub::Hub;
 use sal_report::reply_text;
@@ -74,6 +76,17 @@ impl Caller {
         self.tell(alloc, schemas)?;
         self.make(alloc, readers, hub, step)?;
         self.finish(alloc, schemas)
+    }
+
+    /// What waits for it at this number of its slots.
+    pub(crate) fn waits(&self, hub: &Hub, slot: u8) -> Waiting
+        requires { IsCaller hub.now self.now.number self.now }
+        ensures { result ≡ waiting_for hub.now self.now slot }
+    {
+        match &self.run {
+            Some(run) => waiting_in(hub, self.number, run, slot),
+            None => Waiting::nothing(),
+        }
     }
 
     // Writes the pending reply.

@@ -7,9 +7,11 @@ ghost use Rattle.sal_script.specs.Moves.{move_of};
 ghost use Rattle.sal_script.specs.Tables.{tables_of, versions_of};
 ghost use Rattle.sal_embed.specs.Broker.{AllFollow, AreCallers, AreNear, AreTold, joined, lines_in, report_with};
 ghost use Rattle.sal_embed.specs.Outcomes.{IsPlacing, Makes, Reports, broken_if};
+ghost use Rattle.sal_embed.specs.Waiting.{Waits};
 
 use crate::caller::Caller;
 use crate::fault::StepFault;
+use crate::waiting::{Waiting, waiting_before};
 use sal_client::Readers;
 use sal_hub::{Hub, laws};
 use sal_prepare::plays::trees_of;
@@ -92,6 +94,17 @@ impl Clients {
         let caller = &mut self.callers[client as usize];
         let made = caller.step(alloc, readers, schemas, &mut self.hub, step);
         broken_if(has_grown(&self.hub, calls), made)
+    }
+
+    /// What waits for the client at this number of its slots.
+    pub(crate) fn waits(&self, client: u32, slot: u8) -> Waiting
+        requires { AreCallers self.now.hub self.now.callers.items }
+        ensures { Waits self.now client slot result }
+    {
+        match self.callers.get(client as usize) {
+            Some(caller) => caller.waits(&self.hub, slot),
+            None => waiting_before(&self.hub, client, slot),
+        }
     }
 
     /// The report of all steps so far.

@@ -4,10 +4,12 @@ ghost use Rattle.sal_prepare.specs.Scripted.{tables_in};
 ghost use Rattle.sal_script.specs.Tables.{tables_of, versions_of};
 ghost use Rattle.sal_script.specs.Reading.{parts};
 ghost use Rattle.sal_embed.specs.Opening.{HasNone, IsBadAt, IsBareOr, IsBegun};
+ghost use Rattle.sal_embed.specs.Waiting.{Waits};
 
 use crate::caller::Caller;
 use crate::clients::Clients;
 use crate::fault::StepFault;
+use crate::waiting::Waiting;
 use sal_client::Readers;
 use sal_hub::Hub;
 use sal_prepare::scripted::{Prepared, ReadScript, prepare};
@@ -166,6 +168,13 @@ impl Embedded {
         self.clients.place(alloc, client)?;
         self.clients
             .make(alloc, &self.readers, &self.schemas, client, &step)
+    }
+
+    /// What waits for the client at this number of its slots: a look, without a step. It takes no memory.
+    pub fn waits(&self, client: u32, slot: u8) -> Waiting
+        ensures { Waits self.now client slot result }
+    {
+        self.clients.waits(client, slot)
     }
 
     /// The report of all steps so far.

@@ -5,6 +5,7 @@
 //! | `Embedded` | the broker: `open`, `step`, `report`; it is closed by dropping it |
 //! | `Embedded::over`, `into_hub`, `OpenHub` | a broker over another hub, and the hub of a broker |
 //! | `no_clients`, `no_order` | tests of a script: a broker is opened from one without both |
+//! | `Embedded::waits`, `Waiting` | what waits for a client, without a step |
 //! | `StepFault` | why a step has no reply |
 //! | `CLIENTS` | client numbers are below this |
 //! | `laws` | the steps so far are a script, played in the order of the log |
@@ -29,6 +30,8 @@ mod embedded;
 mod fault;
 pub mod laws;
 mod stepping;
+mod waiting;
 
 pub use embedded::{CLIENTS, Embedded, OpenHub, no_clients, no_order};
 pub use fault::StepFault;
+pub use waiting::Waiting;

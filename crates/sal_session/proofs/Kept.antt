@@ -9,6 +9,8 @@ use Rattle.sal_embed.specs.declared.fault.StepFault.{StepFault}
 use Rattle.sal_embed.specs.declared.fault.StepFault.TheVariants.{BadStep, BadClient, Full, Lost, NoMemory, Untold, Broken}
 use Rattle.sal_embed.specs.Opening.{IsBegun, opened, world_of}
 use Rattle.sal_embed.specs.Outcomes.{Reports, Steps}
+use Rattle.sal_embed.specs.Waiting.{Waits, bits}
+use Rattle.sal_embed.specs.declared.waiting.Waiting.{Waiting}
 use Rattle.sal_follow.specs.States.{Following}
 use Rattle.sal_follow.specs.declared.fault.FollowFault.{FollowFault}
 use Rattle.sal_cluster.specs.declared.leader.Leader.{Leader}
@@ -21,7 +23,7 @@ use Rattle.sal_session.specs.declared.role.Role.{Role}
 use Rattle.sal_session.specs.declared.role.Role.TheVariants.{Broker, Closed, StandBy}
 use Rattle.sal_session.specs.declared.session.Session.{Session}
 use Rattle.sal_session.specs.declared.text.Text.{Text}
-use Rattle.sal_session.specs.Sessions.{IsNew, Opens, ReportsIf, StepsIf, as_now, is_broken, kept, report_number, step_number, text_of}
+use Rattle.sal_session.specs.Sessions.{IsNew, Opens, ReportsIf, StepsIf, WaitsIn, as_now, is_broken, kept, report_number, step_number, text_of}
 use Rattle.sal_session.specs.Streams.{Began, EpochIf, Fed, FedOne, FeedsIf, InDomain, IsBare, IsFed, follows_domain, leader_number, short}
 use Rattle.sal_session.specs.Texts.{told}
 
@@ -54,6 +56,11 @@ kept_by Untold it = refl
 pub reports_open : (old : Role) (new : Session) (n : ℕ) (was : Leader) (it : Clients) (result : Result (List ℕ) Wanting) → old ≡ Broker was → Reports was.broker it result
     → new.role ≡ Broker (as_now was it) → n ≡ report_number result → told new.text ≡ text_of result → ReportsIf old new n
 reports_open old new n was it result is reports role number text = subst (λ (r : Role). ReportsIf r new n) (sym is) (result, it, reports, role, number, text)
+
+-- ---- what waits for a client
+
+pub waits_open : (role : Role) (c slot n : ℕ) (it : Leader) (what : Waiting) → role ≡ Broker it → Waits it.broker c slot what → n ≡ bits what → WaitsIn role c slot n
+waits_open role c slot n it what is waits number = subst (λ (r : Role). WaitsIn r c slot n) (sym is) (what, waits, number)
 
 -- ---- a domain
 

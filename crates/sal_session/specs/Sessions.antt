@@ -9,6 +9,8 @@ use Rattle.sal_embed.specs.declared.fault.StepFault.{StepFault}
 use Rattle.sal_embed.specs.declared.fault.StepFault.TheVariants.{BadStep, BadClient, Full, Lost, NoMemory, Untold, Broken}
 use Rattle.sal_embed.specs.Opening.{IsBegun, opened, world_of}
 use Rattle.sal_embed.specs.Outcomes.{Reports, Steps}
+use Rattle.sal_embed.specs.Waiting.{Waits, bits}
+use Rattle.sal_embed.specs.declared.waiting.Waiting.{Waiting}
 use Rattle.sal_cluster.specs.declared.leader.Leader.{Leader}
 use Rattle.sal_cluster.specs.Leaders.{IsFirst}
 use Rattle.sal_session.specs.declared.role.Role.{Role}
@@ -100,3 +102,9 @@ ReportsIf (StandBy it) new n = Leaves 29 (StandBy it) new n
 ReportsIf (Broker old) new n =
     (result : Result (List ℕ) Wanting) × (it : Clients) × Reports old.broker it result
     × (new.role ≡ Broker (as_now old it)) × (n ≡ report_number result) × (told new.text ≡ text_of result)
+
+-- what waits for client c of a broker at this number of its slots, as bits; 0 without a broker
+abbrev pub WaitsIn : Role → ℕ → ℕ → ℕ → Type 0
+WaitsIn Closed c slot n = n ≡ 0
+WaitsIn (StandBy it) c slot n = n ≡ 0
+WaitsIn (Broker it) c slot n = (what : Waiting) × Waits it.broker c slot what × (n ≡ bits what)

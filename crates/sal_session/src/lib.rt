@@ -6,6 +6,7 @@
 //! | `Session::open`, `step`, `report`, `reply` | opens a broker; a step; the report; the text |
 //! | `Session::frames`, `snapshot`, `epoch`, `left` | the broker's commits as frames; the next epoch; the entries that the log has left |
 //! | `Session::follow`, `feed`, `lead` | opens a stand-by; takes frames; becomes the broker |
+//! | `Session::waits` | what waits for a client, without a step |
 //! | `Session::look`, `number`, `domains`, `version` | a read without a step; the number of a newest commit; how many domains; the version of the schema |
 //! | `loose` | the same as a pointer, for a host that keeps it: its users prove nothing about the broker |
 //! | `DONE`, `NO_MEMORY`, .. | the numbers of the statuses |

@@ -158,6 +158,20 @@ pub fn domains(session: Loose<Session, Global>) -> (Loose<Session, Global>, usiz
     (Loose::of(session), number)
 }
 
+/// `Session::waits`.
+pub fn waits(
+    session: Loose<Session, Global>,
+    client: u32,
+    slot: u8,
+) -> (Loose<Session, Global>, u32)
+    ensures bits { spec.WaitsIn session.value.role client slot result.1 }
+    ensures same { result.0.value ≡ session.value }
+{
+    let session = session.into_box();
+    let bits = session.waits(client, slot);
+    (Loose::of(session), bits)
+}
+
 /// `Session::version`.
 pub fn version(session: Loose<Session, Global>) -> (Loose<Session, Global>, u32)
     ensures number { result.1 ≡ streams.version_in session.value.role }

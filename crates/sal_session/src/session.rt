@@ -76,6 +76,17 @@ impl Session {
         }
     }
 
+    /// What waits for a broker's client at this number of its slots, as the sum of 1 for a request, 2 for notifications, 4 for an answer, 8 for a
+    /// decided submission and 16 for changes; 0 without a broker.
+    pub fn waits(&self, client: u32, slot: u8) -> u32
+        ensures { spec.WaitsIn self.now.role client slot result }
+    {
+        match &self.role {
+            Role::Broker { leader } => leader.broker.waits(client, slot).bits(),
+            Role::Closed | Role::StandBy { .. } => 0,
+        }
+    }
+
     // The number of a fault. A broken broker is dropped.
     fn fail(&mut self, fault: StepFault) -> u32
         ensures { spec.Fails fault self.old self.new result }

@@ -8,6 +8,8 @@
         broker.update(lambda t: t.put("config", "/plain:box/a", "x"))
         print(broker.report())
         broker.look("config", "/plain:box/a")       # 'x', without a step
+        broker.waits(0, 1)                          # <Waiting.DECIDED: 8>: what slot 1 of client 0 would give, without a step
+        for batch in broker.changes(1): ...         # what a listener has not seen; also requests, notifications
         frames = broker.frames(0)                   # the commits as bytes, for a file or a stand-by
 
     standby = mdsal.StandBy(script)                 # feed, look, snapshot; lead() gives the broker
@@ -19,7 +21,7 @@ exception: `MemoryError` if memory ran out, else a subclass of `Error` (`mdsal.e
 Threads may share a broker: each call holds its lock until the reply is copied.
 """
 from . import errors, refusals, replies
-from .broker import Broker, NotCommitted, StandBy, Transaction
+from .broker import Broker, NotCommitted, StandBy, Transaction, Waiting
 from .errors import (
     BadClient, BadDomain, BadExport, BadOpening, BadSchema, BadScript, BadStep, BadStream, BadVersion, Broken, Closed, Empty, Error, Full, Gone, IsOpen, IsStandBy, Lost,
     NotNewest, Pending, Untold,
@@ -27,7 +29,7 @@ from .errors import (
 from .refusals import Refused
 
 __all__ = [
-    "Broker", "StandBy", "Transaction", "NotCommitted", "Refused", "errors", "refusals", "replies",
+    "Broker", "StandBy", "Transaction", "Waiting", "NotCommitted", "Refused", "errors", "refusals", "replies",
     "BadStream", "BadExport", "BadVersion", "BadDomain", "Empty", "Gone", "IsOpen", "IsStandBy", "NotNewest", "Pending",
     "Error", "BadScript", "BadSchema", "BadOpening", "BadStep", "BadClient", "Full", "Lost", "Untold", "Broken", "Closed",
 ]

@@ -3,12 +3,13 @@ from __future__ import annotations
 
 import contextlib
 import ctypes
+import enum
 import threading
-from typing import Any, Callable, Iterable, Sequence, TypeVar
+from typing import Any, Callable, Iterable, Iterator, Sequence, TypeVar
 
 from .errors import BadClient, Error
 from .library import Handle, Session, bytes_of, number, numbers
-from .replies import Conflict, Data, Done, Outcome, Reply, Truth, reply_of
+from .replies import Batch, Conflict, Data, Done, Notes, Outcome, Reply, Request, Truth, reply_of
 
 CLIENTS = 65536
 Kept = TypeVar("Kept")
@@ -20,6 +21,21 @@ class NotCommitted(Error):
     def __init__(self, outcome: Outcome):
         super().__init__(str(outcome))
         self.outcome = outcome
+
+
+class Waiting(enum.IntFlag):
+    """What waits for a client: each flag is set if and only if the step would give something now."""
+
+    REQUEST = 1
+    """`next-call` would give a request."""
+    NOTES = 2
+    """`take-notes` would give a notification."""
+    ANSWER = 4
+    """`collect` would give the answer to the request in the slot."""
+    DECIDED = 8
+    """The submission whose receipt is in the slot is decided: `settle` would give its outcome, and decide nothing."""
+    CHANGES = 16
+    """The batch of `take` would go beyond the one before: the domain of the listener in the slot has commits, which may have no change at its path."""
 
 
 class Broker(Session):
@@ -90,6 +106,33 @@ class Broker(Session):
     def left(self) -> int:
         """How many shared calls the log has room for."""
         return self._number("left")
+
+    def waits(self, client: int, slot: int = 0) -> Waiting:
+        """Returns what waits for the client; `slot` is the number of its slots that hold the listener, the receipt and the request. It is no step, and adds
+        nothing to the log."""
+        return Waiting(self._number("waits", number(client, 32), number(slot, 8)))
+
+    def changes(self, client: int, slot: int = 0) -> Iterator[Batch]:
+        """Takes the batches of the listener in the slot while commits wait that it has not seen. It ends when none waits, and may then be called again; a
+        poll in vain adds nothing to the log. A batch has no part if its commits have no change at the listener's path."""
+        while Waiting.CHANGES in self.waits(client, slot):
+            it = self.call(client, ["take", slot])
+            assert isinstance(it, Batch)
+            yield it
+
+    def requests(self, client: int, slot: int = 0) -> Iterator[Request]:
+        """Takes the requests to the client into the slot while one waits: answer each by `answer` before the next one."""
+        while Waiting.REQUEST in self.waits(client, slot):
+            it = self.call(client, ["next-call", slot])
+            assert isinstance(it, Request)
+            yield it
+
+    def notifications(self, client: int) -> Iterator[tuple[str, Any]]:
+        """Takes the notifications to the client while some wait, each as its name and its data."""
+        while Waiting.NOTES in self.waits(client):
+            it = self.call(client, ["take-notes"])
+            assert isinstance(it, Notes)
+            yield from it.notes
 
     def report(self) -> str:
         """Returns the report of all steps so far, as `mdsal sim` writes it."""

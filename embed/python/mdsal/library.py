@@ -25,6 +25,7 @@ CALLS = (
     ("number", [], U64),
     ("version", [], U32),
     ("left", [], SIZE),
+    ("waits", [U32, ctypes.c_uint8], U32),
     ("follow_of", [TEXT, SIZE, ctypes.POINTER(U64), SIZE], U32),
     ("feed_of", [U32, TEXT, SIZE], U32),
     ("frames_of", [U32, U64], U32),

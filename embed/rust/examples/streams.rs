@@ -1,5 +1,5 @@
 //! Frames, an epoch and a stand-by that leads. The frames are those of docs/FORMATS.md, "Frames", written by hand.
-use mdsal::{Broker, Error, Outcome, StandBy, Store};
+use mdsal::{Broker, Error, Outcome, StandBy, Store, Waiting};
 
 const OPENING: &str = "00000041\n{\"commit\":0,\"config\":[],\"operational\":[]}\n";
 const FIRST: &str = "00000052\n{\"commit\":1,\"config\":[[[0,1],\"x\"]],\"operational\":[]}\n";
@@ -63,8 +63,42 @@ fn with_a_device() -> Result<(), Error> {
     Ok(())
 }
 
+/// Steps in one call: all replies, or those before the one that is not made.
+fn batches() -> Result<(), Error> {
+    let mut broker = Broker::open("{}")?;
+    let told = broker.steps(0, [r#"["mark",9]"#, r#"["after",9]"#]);
+    assert_eq!(told, Ok(vec!["ok".to_owned(), "found".to_owned()]));
+    let told = broker.steps(0, [r#"["after",9]"#, r#"["no-step"]"#, r#"["mark",8]"#]);
+    assert_eq!(told, Err((vec!["found".to_owned()], Error::BadStep)));
+    assert_eq!(broker.step(0, r#"["after",8]"#)?, "late");
+    Ok(())
+}
+
+/// A poll takes what waits; in vain it adds nothing to the log.
+fn polled() -> Result<(), Error> {
+    let mut broker = Broker::open("{}")?;
+    broker.made(1, r#"["listen",3,0,"config","/plain:box"]"#)?;
+    let left = broker.left();
+    assert_eq!(broker.waits(1, 3), Waiting::default());
+    assert_eq!(broker.changes(1, 3)?, None);
+    assert_eq!(
+        (broker.request(1, 3)?, broker.notifications(1)?),
+        (None, None)
+    );
+    assert_eq!(broker.left(), left);
+    assert_eq!(put(&mut broker, "x")?, Outcome::Done { commit: 1 });
+    let (at_listener, at_receipt) = (broker.waits(1, 3), broker.waits(0, 0));
+    assert!(at_listener.changes && !at_listener.decided && at_receipt.decided && at_receipt.any());
+    let batch = broker.changes(1, 3)?.expect("changes wait");
+    assert!(batch.starts_with("batch 0 1 "), "{batch}");
+    assert!(!broker.waits(1, 3).any());
+    Ok(())
+}
+
 fn main() -> Result<(), Error> {
     with_a_device()?;
+    batches()?;
+    polled()?;
     let mut broker = Broker::open("{}")?;
     let mut standby = StandBy::open("{}", 0)?;
     assert_eq!(standby.snapshot(), Err(Error::Empty));

@@ -13,8 +13,10 @@
 //! without a reply returns an [`Error`]. A [`Broker`] and a [`StandBy`] may move to another thread; to share one, use a `Mutex`. It is closed when it is
 //! dropped.
 mod reply;
+mod waiting;
 
 pub use reply::Outcome;
+pub use waiting::Waiting;
 
 use std::fmt;
 use std::ptr;
@@ -40,6 +42,7 @@ unsafe extern "C" {
     fn mdsal_number(handle: &mut Handle) -> u64;
     fn mdsal_version(handle: &mut Handle) -> u32;
     fn mdsal_left(handle: &mut Handle) -> usize;
+    fn mdsal_waits(handle: &mut Handle, client: u32, slot: u8) -> u32;
     fn mdsal_frames_of(handle: &mut Handle, domain: u32, above: u64) -> u32;
     fn mdsal_snapshot_of(handle: &mut Handle, domain: u32) -> u32;
     fn mdsal_look_of(
@@ -290,6 +293,22 @@ impl Broker {
         self.session.answered(status).map(told)
     }
 
+    /// Makes the steps of a client in turn, and returns the texts of their replies; or those before the first step that is not made, and why it is not.
+    pub fn steps<S: AsRef<[u8]>>(
+        &mut self,
+        client: u32,
+        steps: impl IntoIterator<Item = S>,
+    ) -> Result<Vec<String>, (Vec<String>, Error)> {
+        let mut told = Vec::new();
+        for step in steps {
+            match self.step(client, step) {
+                Ok(reply) => told.push(reply),
+                Err(error) => return Err((told, error)),
+            }
+        }
+        Ok(told)
+    }
+
     /// Makes the client's next step, and returns the text of its reply; a refusal is an error.
     pub fn made(&mut self, client: u32, step: impl AsRef<[u8]>) -> Result<String, Error> {
         match self.step(client, step)? {
@@ -399,6 +418,49 @@ impl Broker {
     pub fn version(&mut self) -> u32 {
         // SAFETY: the handle is this broker's, used by one call at a time.
         unsafe { mdsal_version(&mut self.session.handle) }
+    }
+
+    /// What waits for the client; `slot` is the number of its slots that hold the listener, the receipt and the request. It is no step, and adds
+    /// nothing to the log.
+    pub fn waits(&mut self, client: u32, slot: u8) -> Waiting {
+        // SAFETY: the handle is this broker's, used by one call at a time.
+        Waiting::of(unsafe { mdsal_waits(&mut self.session.handle, client, slot) })
+    }
+
+    /// Makes the step, if something waits for it: the step that takes it, such as `["take",0]` for [`Waiting::changes`]. A poll in vain adds nothing to
+    /// the log.
+    fn taken(
+        &mut self,
+        client: u32,
+        slot: u8,
+        waits: impl Fn(Waiting) -> bool,
+        step: &str,
+    ) -> Result<Option<String>, Error> {
+        if !waits(self.waits(client, slot)) {
+            return Ok(None);
+        }
+        self.made(client, step).map(Some)
+    }
+
+    /// The next batch of the listener in the slot, if it has commits to see.
+    pub fn changes(&mut self, client: u32, slot: u8) -> Result<Option<String>, Error> {
+        self.taken(
+            client,
+            slot,
+            |it| it.changes,
+            &format!(r#"["take",{slot}]"#),
+        )
+    }
+
+    /// The next request to the client, if one waits; it is then in the slot.
+    pub fn request(&mut self, client: u32, slot: u8) -> Result<Option<String>, Error> {
+        let step = format!(r#"["next-call",{slot}]"#);
+        self.taken(client, slot, |it| it.request, &step)
+    }
+
+    /// The notifications to the client, if some wait.
+    pub fn notifications(&mut self, client: u32) -> Result<Option<String>, Error> {
+        self.taken(client, 0, |it| it.notes, r#"["take-notes"]"#)
     }
 
     /// How many shared calls the log has room for.

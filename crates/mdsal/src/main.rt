@@ -1,8 +1,8 @@
 //! The data broker's command: `mdsal run` runs a script's clients on threads over one broker and writes the replies of each and
 //! the committed trees; `mdsal sim` plays them in the script's order; `mdsal load` runs four clients of its own; `mdsal schema`
-//! checks a script's modules; `mdsal owner` plays steps of clients that agree on owners of entities; `mdsal export` writes commits as frames,
-//! `mdsal follow` rebuilds trees from them, and `mdsal feed` passes notifications from thread to thread; `mdsal draw` makes a picture of a
-//! script's clients, and `mdsal audit` judges a report.
+//! checks a script's modules, and `mdsal lint` says what of them is refused or ignored, and where; `mdsal owner` plays steps of clients
+//! that agree on owners of entities; `mdsal export` writes commits as frames, `mdsal follow` rebuilds trees from them, and `mdsal feed`
+//! passes notifications from thread to thread; `mdsal draw` makes a picture of a script's clients, and `mdsal audit` judges a report.
 //!
 //! It passes the words of its command line, standard input and standard output to the top call of `sal_command`, and ends
 //! with the returned status.

@@ -13,6 +13,7 @@
 //! | `Sal::subscribe`, `offer`, `take_notes` | the same, of notifications |
 //! | `Sal::mount`, `unmount`, `mount_at` | the same, of mounts |
 //! | `Sal::upgrade` | the same, of the versions of the controller's own schema |
+//! | `Sal::has_request`, `has_answer`, `has_notes`, `has_commits`, `is_decided` | the hub's looks at what waits, without an entry, a turn each |
 //! | `Sal::after` | a look for a mark, a turn each, until it is set or `MAX_LOOKS` looks found none |
 //! | `Sal::enter`, `leave` | a turn with direct access to the hub, for a caller that needs more than one call in it |
 //! | `Sal::enter_after` | the turn of the last look for a mark, with direct access to the hub |
@@ -59,6 +60,7 @@ mod seat;
 mod shared;
 mod version_calls;
 mod waiting;
+mod waits;
 
 pub use held::Held;
 pub use looks::MAX_LOOKS;

@@ -26,4 +26,4 @@ keeps piece old new (Ok done) (v, feeds) first trees before more all texts short
     ]
 keeps piece old new (Err fault) (inl feeds) first trees before more all texts short came prefix =
     by_follower piece old new fault (keeps_up piece old new (Err fault) feeds) first trees before more all texts short came prefix
-keeps piece old new (Err fault) (inr (is, same)) first trees before more all texts short came prefix = inl (ap (λ (f : FollowFault). let r : Result ⊤ FollowFault = Err f in r) is)
+keeps piece old new (Err fault) (inr (is, same, going)) first trees before more all texts short came prefix = inl (ap (λ (f : FollowFault). let r : Result ⊤ FollowFault = Err f in r) is)

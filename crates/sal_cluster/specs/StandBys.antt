@@ -59,10 +59,14 @@ before_from firsts n (table ∷ tables) = record { schema = table; held = fresh_
 
 -- ---- a piece of a stream
 
--- the effect of a piece, without the follower's number
+-- the effect of a piece, without the follower's number; after a fault each answer is this fault
 abbrev pub Takes : List ℕ → Following → Following → Result ⊤ FollowFault → Type 0
 Takes piece old new (Ok done) = (v : Option ℕ) × Feeds piece old new (Ok v)
-Takes piece old new (Err fault) = Feeds piece old new (Err fault) ⊎ ((fault ≡ follow.NoMemory) × (new ≡ old))
+Takes piece old new (Err fault) = Feeds piece old new (Err fault) ⊎ ((fault ≡ follow.NoMemory) × (new ≡ old) × (old.held.fault ≡ None))
+
+-- nothing is taken, whatever the piece is
+abbrev pub Stays : Following → FollowFault → Type 0
+Stays f fault = (piece : List ℕ) → Takes piece f f (Err fault)
 
 -- If the bytes so far, with the piece, are a prefix of a stream of a leader's commits by the follower's schema, it has no fault, and the leader's trees
 -- at its number, unless memory ran out. The stream begins with the number that the follower begins with.

@@ -3,7 +3,7 @@ ghost use Rattle.std.specs.Prelude.{◌≡◌, ◌<◌, ◌+◌, ◌^◌, IfOk, 
 ghost use Rattle.sal_json.specs.Patterns.{patterns_of};
 ghost use Rattle.sal_follow.specs.Fed.{IsFedBy};
 ghost use Rattle.sal_follow.specs.Stream.{fresh_at};
-ghost use Rattle.sal_cluster.specs.StandBys.{KeepsUp, Takes};
+ghost use Rattle.sal_cluster.specs.StandBys.{KeepsUp, Stays, Takes};
 
 use sal_follow::laws::places_count_bytes;
 use sal_follow::{FollowFault, Follower};
@@ -50,14 +50,14 @@ impl Beside {
         })
     }
 
-    /// Takes the next piece of the stream. If memory runs out, nothing of it was taken.
+    /// Takes the next piece of the stream. If memory runs out, nothing of it was taken. After another fault it returns this fault from then on.
     pub(crate) fn feed(&mut self, piece: &[u8]) -> Result<(), FollowFault>
         ensures taken { Takes piece.now self.old self.new result }
         ensures leader { KeepsUp piece.now self.old self.new result }
         ensures schema { self.new.schema ≡ self.old.schema }
     {
         let Some(after) = self.fed.checked_add(piece.len() as u64) else {
-            return Err(FollowFault::NoMemory);
+            return Err(without_room(&self.follower));
         };
         let fed = self.fed;
         self.fed = after;
@@ -79,6 +79,16 @@ fn patterns_by(alloc: Global, schema: &Schema) -> Result<Patterns, NoMemory>
     match Patterns::of(alloc, schema) {
         Ok(patterns) => Ok(patterns),
         Err(_) => Err(NoMemory),
+    }
+}
+
+// The answer to a piece for whose bytes there is no number: the fault of the stream, as ever; else as without memory.
+fn without_room(follower: &Follower) -> FollowFault
+    ensures { Stays follower.now result }
+{
+    match follower.fault() {
+        Some(fault) => fault,
+        None => FollowFault::NoMemory,
     }
 }
 

@@ -106,7 +106,7 @@ impl StandBy {
         self.standing.followers.len()
     }
 
-    /// Takes the next piece of the domain's stream. If memory runs out, nothing of it was taken.
+    /// Takes the next piece of the domain's stream. If memory runs out, nothing of it was taken. After another fault it returns this fault from then on.
     pub fn feed(&mut self, domain: u32, piece: &[u8]) -> Result<(), FollowFault>
         requires { domain < length self.old.followers.items }
         ensures feeds { FeedsAt self.old.followers.items self.new.followers.items domain piece.now result }

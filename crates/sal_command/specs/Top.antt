@@ -1,5 +1,5 @@
 -- The meaning of each status of the command.
-use Rattle.std.specs.Prelude.{◌≡◌, ℕ, ◌≤◌, ⊤, List, MatchResult, Option, None, Some, Result, Ok, Err, Vec, length}
+use Rattle.std.specs.Prelude.{◌≡◌, ◌⊎◌, ℕ, ◌≤◌, ⊤, List, MatchResult, Option, None, Some, Result, Ok, Err, Vec, length}
 use Rattle.std.specs.Io.KnownBytes.{Appends}
 use Rattle.std.specs.declared.alloc.Global.{Global}
 use Rattle.sal_io.specs.Transfer.{TakesAll, TakesSome, TakesFront}
@@ -16,6 +16,8 @@ use Rattle.sal_versions.specs.Schemas.{table_of}
 use Rattle.sal_prepare.specs.Scripted.{IsStatusOf, Prepared, or_schema, or_script, prepared}
 use Rattle.sal_prepare.specs.Texts.{IsTextStatus}
 use Rattle.sal_feed_script.specs.Feeding.{feed_text}
+use Rattle.sal_lint.specs.declared.places.Place.{Place}
+use Rattle.sal_lint_script.specs.Linted.{lint_text, status_of}
 use Rattle.sal_follow_script.specs.Exports.{export_text}
 use Rattle.sal_follow_script.specs.Follows.{follow_text}
 use Rattle.sal_picture.specs.Pictured.{draw_text}
@@ -26,7 +28,7 @@ use Rattle.sal_prepare.specs.declared.status.Status.TheVariants.{Done, BadWords,
 use Rattle.sal_command.specs.declared.words.Form.{Form}
 use Rattle.sal_command.specs.declared.texts.Made.{Made}
 use Rattle.sal_command.specs.declared.texts.Made.TheVariants as made_as
-use Rattle.sal_command.specs.declared.words.Form.TheVariants.{Run, Text, Load, Feed, Help, Version}
+use Rattle.sal_command.specs.declared.words.Form.TheVariants.{Run, Lint, Text, Load, Feed, Help, Version}
 use Rattle.sal_command.specs.declared.words.TextForm.{TextForm}
 use Rattle.sal_command.specs.declared.words.TextForm.TheVariants.{Sim, Schema, Owner, Export, Follow, Draw, Audit}
 
@@ -126,6 +128,36 @@ TextAnswers comes before after given given' ReadFault = given' ≡ given
 TextAnswers comes before after given given' NoMemory = given' ≡ given
 TextAnswers comes before after given given' BadWords = ⊥
 
+-- All bytes of the input, at most 16,777,216, what is said of them, and the status of their script. If they are no JSON, `json` is the place at which
+-- the reader stopped.
+pub record Says (before after : Option (List ℕ)) (text : List ℕ) (status : Status) : Type 0 where
+  pub bytes : List ℕ
+  pub taken : TakesAll before after bytes
+  pub within : length bytes ≤ 16777216
+  pub json : Place
+  pub is : text ≡ lint_text json bytes
+  pub ends : status_of bytes ≡ status
+
+-- this was written whole, and the status is that of the script
+abbrev pub Lints : Option (List ℕ) → Option (List ℕ) → Option (List ℕ) → Option (List ℕ) → Status → Type 0
+Lints before after given given' status = (text : List ℕ) × Says before after text status × Written text given given' Done
+
+-- The effect of `lint`: also if the script has a fault, what is said of it is written. If memory ran out, or a read failed, nothing was written.
+abbrev pub LintAnswers : Option (List ℕ) → Option (List ℕ) → Option (List ℕ) → Option (List ℕ) → Status → Type 0
+LintAnswers before after given given' Done = Lints before after given given' Done
+LintAnswers before after given given' (BadScript place) = Lints before after given given' (BadScript place)
+LintAnswers before after given given' (BadSchema device text) = Lints before after given given' (BadSchema device text)
+LintAnswers before after given given' (BadOpening text) = Lints before after given given' (BadOpening text)
+LintAnswers before after given given' WriteFault = (text : List ℕ) × (status : Status) × Says before after text status × Written text given given' WriteFault
+LintAnswers before after given given' TooLong = TakesSome before after (λ bytes. length bytes ≡ 16777217) × (given' ≡ given)
+LintAnswers before after given given' ReadFault = given' ≡ given
+LintAnswers before after given given' NoMemory = given' ≡ given
+LintAnswers before after given given' BadWords = ⊥
+LintAnswers before after given given' (BadOrder index) = ⊥
+LintAnswers before after given given' NoPart = ⊥
+LintAnswers before after given given' (BadStream text) = ⊥
+LintAnswers before after given given' (BadExport commit) = ⊥
+
 -- The effect of a form that reads no input, and gives a text for any numbers in its words. If memory ran out nothing was written.
 abbrev pub OwnAnswers : (List ℕ → Type 0) → Option (List ℕ) → Option (List ℕ) → Status → Type 0
 OwnAnswers comes given given' Done = (text : List ℕ) × comes text × Written text given given' Done
@@ -137,6 +169,7 @@ OwnAnswers comes given given' status = ⊥
 abbrev pub Answers : Option Form → Option (List ℕ) → Option (List ℕ) → Option (List ℕ) → Option (List ℕ) → Status → Type 0
 Answers None before after given given' status = (status ≡ BadWords) × (after ≡ before) × (given' ≡ given)
 Answers (Some Run) before after given given' status = TextAnswers RunsTo before after given given' status
+Answers (Some Lint) before after given given' status = LintAnswers before after given given' status
 Answers (Some (Text form)) before after given given' status = TextAnswers (IsMadeBy (made_text form)) before after given given' status
 Answers (Some (Load rounds start)) before after given given' status = (after ≡ before) × OwnAnswers (LoadsTo rounds start) given given' status
 Answers (Some (Feed notes capacity)) before after given given' status = (after ≡ before) × OwnAnswers (FeedsTo notes capacity) given given' status
@@ -150,11 +183,12 @@ abbrev pub IsMade : {A : Type 0} → (List ℕ → Result A Status) → Option (
 IsMade {A} make (Some bytes) = (length bytes ≤ 16777216) × ((made : A) × (make bytes ≡ Ok made))
 IsMade {A} make None = ⊥
 
--- Known words, with an input that is valid for them. A run has no condition on the order of the script, and a load and a feed have none
+-- Known words, with an input that is valid for them. A run and a lint have no condition on the order of the script, and a load and a feed have none
 -- at all.
 abbrev pub IsValid : Option Form → Option (List ℕ) → Type 0
 IsValid None before = ⊥
 IsValid (Some Run) before = IsMade prepared before
+IsValid (Some Lint) before = IsMade prepared before
 IsValid (Some (Text form)) before = IsMade (made_text form) before
 IsValid (Some (Load rounds start)) before = ⊤
 IsValid (Some (Feed notes capacity)) before = ⊤
@@ -170,6 +204,11 @@ IsDoneUnlessStopped NoMemory = ⊤
 IsDoneUnlessStopped status = ⊥
 
 -- ---- results of functions
+
+-- this text was written whole and the command ends with this status, or a prefix of it
+abbrev pub IsWrittenWith : List ℕ → Status → Option (List ℕ) → Option (List ℕ) → Status → Type 0
+IsWrittenWith text ends given given' result =
+    ((result ≡ ends) × Written text given given' Done) ⊎ ((result ≡ WriteFault) × Written text given given' WriteFault)
 
 -- all bytes of an input, of which there are not too many; or why there are none
 abbrev pub IsInputOr : Option (List ℕ) → Option (List ℕ) → Result (Vec ℕ Global) Status → Type 0

@@ -4,7 +4,7 @@ use Rattle.std.specs.Char.{is_ascii_digit}
 use Rattle.std.specs.List.{list_all}
 use Rattle.sal_script.specs.Json.{text_eq}
 use Rattle.sal_command.specs.declared.words.Form.{Form}
-use Rattle.sal_command.specs.declared.words.Form.TheVariants.{Run, Text, Load, Feed, Help, Version}
+use Rattle.sal_command.specs.declared.words.Form.TheVariants.{Run, Lint, Text, Load, Feed, Help, Version}
 use Rattle.sal_command.specs.declared.words.TextForm.{TextForm}
 use Rattle.sal_command.specs.declared.words.TextForm.TheVariants.{Sim, Schema, Owner, Export, Follow, Draw, Audit}
 use Rattle.sal_draw_script.specs.declared.rows.Range.{Range}
@@ -62,8 +62,9 @@ text_form_named word =
 abbrev pub form_named : List ℕ → Option Form
 form_named word =
     if text_eq word (codes "run") then Some Run
+    else (if text_eq word (codes "lint") then Some Lint
     else (if text_eq word (codes "--help") then Some Help
-    else (if text_eq word (codes "--version") then Some Version else option_map Text (text_form_named word)))
+    else (if text_eq word (codes "--version") then Some Version else option_map Text (text_form_named word))))
 
 -- a load of 1 to 10,000 rounds, whose values begin after a number of at most 65,536
 abbrev pub load_of : List ℕ → List ℕ → Option Form

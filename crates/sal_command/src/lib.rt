@@ -11,7 +11,7 @@
 //!
 //! `sal_prepare` prepares the script, `sal_run` runs it over the broker or `sal_client` plays it over a hub, and `sal_report` writes the report.
 //! `sal_owner_script` reads, plays and reports the steps of `owner`. `sal_follow_script` exports and follows frames, `sal_feed_script` passes
-//! notifications between threads, `sal_picture` draws pictures, and `sal_audit` audits reports.
+//! notifications between threads, `sal_picture` draws pictures, `sal_audit` audits reports, and `sal_lint_script` says what is refused and ignored.
 #![tactic(auto)]
 
 mod loaded;

@@ -1,6 +1,7 @@
 //! The top call: the whole command.
 ghost use Rattle.std.specs.Prelude.{◌≡◌, ◌↔◌, ◌≤◌, None, IfErr};
 ghost use Rattle.sal_io.specs.Causes.{Rose};
+ghost use Rattle.sal_lint_script.specs.Linted.{IsEnd};
 ghost use Rattle.sal_command.specs.Words.{form_of};
 ghost use Rattle.sal_command.specs.Top as spec;
 
@@ -10,6 +11,7 @@ use crate::texts::made_by;
 use crate::words::{Form, TextForm, form_of};
 use sal_feed_script::feed_text;
 use sal_io::{Gate, ReadFail, Sink, Source, read_all, write_all};
+use sal_lint_script::Linted;
 use sal_prepare::status::Status;
 use sal_types::{NoMemory, Str};
 use std::alloc::Global;
@@ -26,6 +28,7 @@ usage: mdsal run < SCRIPT\n\
        mdsal sim < SCRIPT\n\
        mdsal load N S\n\
        mdsal schema < SCRIPT\n\
+       mdsal lint < SCRIPT\n\
        mdsal owner < STEPS\n\
        mdsal export < SCRIPT\n\
        mdsal follow < SCRIPT, A ZERO BYTE, FRAMES\n\
@@ -45,6 +48,9 @@ an entry into one list, in a transaction of its own. The entries are numbered fr
 and rows there are at the end, and the sum of the numbers. N is 1 to 10000, and S 0 to 65536.\n\
 \n\
 schema reads a script too, and writes the table of the schema that its modules build.\n\
+\n\
+lint reads a script too, and writes a line for each statement of its modules that is refused, or read and ignored. If run cannot play\n\
+the script, it writes the line of the status too, with the line and the column of the fault, and ends with that status.\n\
 \n\
 owner reads a JSON array of steps, in which clients register for entities such as switches and ask who owns them, and writes\n\
 a line for each step with its reply. The first registered candidate of an entity owns it.\n\
@@ -103,6 +109,7 @@ pub fn mdsal<R: Threads + Wait + Sync, S: Source, K: Sink, G: Gate>(
     match form_of(words) {
         None => Status::BadWords,
         Some(Form::Run) => run_clients(rt, alloc, source, sink, gate),
+        Some(Form::Lint) => lint(alloc, source, sink),
         Some(Form::Text(form)) => make(alloc, form, source, sink, gate),
         Some(Form::Load { rounds, start }) => load(rt, alloc, rounds, start, sink, gate),
         Some(Form::Feed { notes, capacity }) => feed(rt, alloc, notes, capacity, sink),
@@ -129,6 +136,33 @@ fn run_clients<R: Threads + Wait + Sync, S: Source, K: Sink, G: Gate>(
             Err(status) => status,
         },
         Err(status) => status,
+    }
+}
+
+// Reads the script, writes what is said of it, and ends with its status.
+fn lint<S: Source, K: Sink>(alloc: Global, source: &mut S, sink: &mut K) -> Status
+    ensures read_fault { result ≡ Status.ReadFault → Rose (S.faults source.old) (S.faults source.new) }
+    ensures write_fault { result ≡ Status.WriteFault → Rose (K.faults sink.old) (K.faults sink.new) }
+    ensures answer { spec.LintAnswers (S.left source.old) (S.left source.new) (K.taken sink.old) (K.taken sink.new) result }
+{
+    match input_of(alloc, source) {
+        Ok(bytes) => match sal_lint_script::lint(alloc, &bytes) {
+            Ok(linted) => write_linted(sink, linted),
+            Err(NoMemory) => Status::NoMemory,
+        },
+        Err(status) => status,
+    }
+}
+
+// Writes what is said, and ends with the status of the script.
+fn write_linted<K: Sink>(sink: &mut K, linted: Linted) -> Status
+    requires { IsEnd linted.status }
+    ensures write_fault { result ≡ Status.WriteFault → Rose (K.faults sink.old) (K.faults sink.new) }
+    ensures written { spec.IsWrittenWith linted.text linted.status (K.taken sink.old) (K.taken sink.new) result }
+{
+    match write_all(sink, linted.text.items()) {
+        Ok(()) => linted.status,
+        Err(_failed) => Status::WriteFault,
     }
 }
 

@@ -15,6 +15,8 @@ use sal_types::Str;
 pub enum Form {
     /// Runs the script's clients on separate threads and writes the report.
     Run,
+    /// Writes what is said of the script, and ends with its status.
+    Lint,
     /// Makes a text from the input alone, and writes it.
     Text(TextForm),
     /// Runs four clients that put entries into one list, each in `rounds` rounds, and writes the summary.
@@ -67,6 +69,8 @@ fn form_named(word: &str) -> Option<Form>
 {
     if word == "run" {
         Some(Form::Run)
+    } else if word == "lint" {
+        Some(Form::Lint)
     } else if word == "--help" {
         Some(Form::Help)
     } else if word == "--version" {

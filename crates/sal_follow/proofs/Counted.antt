@@ -38,7 +38,7 @@ more_fed n f g piece result is (inl (taken, told)) = record {
       ap (λ (x : Following). x.held) taken ∙ ap (λ (h : Held). followed f.schema h piece) is.held ∙ joined f.schema (fresh_at is.first) is.bytes piece
       ∙ ap (λ (x : Following). followed x.schema (fresh_at is.first) (is.bytes ++ piece)) (sym taken);
 }
-more_fed n f g piece result is (inr (none, same)) = record {
+more_fed n f g piece result is (inr (none, same, going)) = record {
   first = is.first;
   bytes = is.bytes;
   few = omega (arith, is.few);

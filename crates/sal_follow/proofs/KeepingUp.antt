@@ -19,7 +19,7 @@ no_fault : (h : Held) → h.fault ≡ None → answer h ≡ Ok h.version
 no_fault h none = ap (λ (o : Option FollowFault). option_map_or (λ fault. Err fault) o (Ok h.version)) none
 
 pub keeps_up : (piece : List ℕ) (old new : Following) (result : Result (Option ℕ) FollowFault) → Feeds piece old new result → KeepsUp piece old new result
-keeps_up piece old new result (inr (wanting, same)) first trees before more all texts short came prefix = inl wanting
+keeps_up piece old new result (inr (wanting, same, going)) first trees before more all texts short came prefix = inl wanting
 keeps_up piece old new result (inl (is, answers)) first trees before more all texts short came prefix =
     let now : new.held ≡ followed old.schema (fresh_at first) (before ++ piece) =
     ap (λ (f : Following). f.held) is ∙ ap (λ h. followed old.schema h piece) came ∙ sym (joined old.schema (fresh_at first) before piece) in

@@ -73,8 +73,8 @@ pub record Following : Type 0 where
   pub schema : SchemaTable
   pub held : Held
 
--- The effect of a piece: the state is that after its bytes, and the answer is that of the new state; or memory ran out, and nothing of it
--- was taken.
+-- The effect of a piece: the state is that after its bytes, and the answer is that of the new state; or there was no fault before, memory ran out,
+-- and nothing of it was taken. So after a fault nothing is taken, and each answer is this fault.
 abbrev pub Feeds : List ℕ → Following → Following → Result (Option ℕ) FollowFault → Type 0
 Feeds piece old new result =
-    ((new ≡ record { schema = old.schema; held = followed old.schema old.held piece }) × (result ≡ answer new.held)) ⊎ ((result ≡ Err NoMemory) × (new ≡ old))
+    ((new ≡ record { schema = old.schema; held = followed old.schema old.held piece }) × (result ≡ answer new.held)) ⊎ ((result ≡ Err NoMemory) × (new ≡ old) × (old.held.fault ≡ None))

@@ -172,7 +172,7 @@ impl Follower {
     /// Takes the next piece of the stream, and returns the follower's commit, none before the first frame.
     ///
     /// If memory runs out, nothing of the piece was taken. After another fault the follower keeps the last valid commit, and returns this fault
-    /// from then on.
+    /// from then on, also where there is no memory.
     pub fn feed(&mut self, piece: &[u8]) -> Result<Option<u64>, FollowFault>
         requires { self.old.held.first + self.old.held.at + length self.old.held.rest + length piece.now < 2 ^ 64 }
         ensures taken { Feeds piece.now self.old self.new result }
@@ -194,6 +194,13 @@ impl Follower {
             Ok(()) => answered(&self.state),
             Err(NoMemory) => Err(FollowFault::NoMemory),
         }
+    }
+
+    /// The first fault of the stream, which each later `feed` returns; none while the bytes so far have none. It takes no memory.
+    pub fn fault(&self) -> Option<FollowFault>
+        ensures { result ≡ self.now.held.fault }
+    {
+        self.state.fault
     }
 
     /// The follower's commit. It takes no memory.

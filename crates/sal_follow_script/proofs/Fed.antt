@@ -77,9 +77,9 @@ module _ (stream : List ℕ) (start now next : Following) (fed end : ℕ) (piece
   pub more_fed : (v : Option ℕ) → result ≡ Ok v → IsFed stream start next end
   more_fed v e = by feeds
     where
-      by : ((next ≡ record { schema = now.schema; held = followed now.schema now.held piece }) × (result ≡ answer next.held)) ⊎ ((result ≡ Err NoMemory) × (next ≡ now)) → IsFed stream start next end
+      by : ((next ≡ record { schema = now.schema; held = followed now.schema now.held piece }) × (result ≡ answer next.held)) ⊎ ((result ≡ Err NoMemory) × (next ≡ now) × (now.held.fault ≡ None)) → IsFed stream start next end
       by (inl (is_next, told)) = record { held = after is_next; going = going next.held.fault next.held.version v (sym told ∙ e); within = inside }
-      by (inr (none, same)) = absurd (other (sym none ∙ e))
+      by (inr (none, same, going)) = absurd (other (sym none ∙ e))
         where
           other : (let r : Result (Option ℕ) FollowFault = Err NoMemory in r) ≡ Ok v → ⊥
           other x = cc
@@ -90,10 +90,10 @@ module _ (stream : List ℕ) (start now next : Following) (fed end : ℕ) (piece
   held_at : (fault : FollowFault) → result ≡ Err fault → (fault ≡ NoMemory → ⊥) → (next ≡ record { schema = start.schema; held = followed start.schema fresh (take end stream) }) × (next.held.fault ≡ Some fault)
   held_at fault e apart = by feeds
     where
-      by : ((next ≡ record { schema = now.schema; held = followed now.schema now.held piece }) × (result ≡ answer next.held)) ⊎ ((result ≡ Err NoMemory) × (next ≡ now))
+      by : ((next ≡ record { schema = now.schema; held = followed now.schema now.held piece }) × (result ≡ answer next.held)) ⊎ ((result ≡ Err NoMemory) × (next ≡ now) × (now.held.fault ≡ None))
           → (next ≡ record { schema = start.schema; held = followed start.schema fresh (take end stream) }) × (next.held.fault ≡ Some fault)
       by (inl (is_next, told)) = (after is_next, fault_of next.held.fault next.held.version fault (sym told ∙ e))
-      by (inr (none, same)) = absurd (apart (same_err (sym e ∙ none)))
+      by (inr (none, same, going)) = absurd (apart (same_err (sym e ∙ none)))
 
   faulty : (fault : FollowFault) → (next ≡ record { schema = start.schema; held = followed start.schema fresh (take end stream) }) × (next.held.fault ≡ Some fault) → (followed start.schema fresh stream).fault ≡ Some fault
   faulty fault both =

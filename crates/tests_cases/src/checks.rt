@@ -1,4 +1,5 @@
-//! Checks that no script can make: a full history, and frames that are cut or sent from one thread to another.
+//! Checks that no script can make: a full history, frames that are cut or sent from one thread to another, and calls of the library on the hub of a
+//! script.
 //!
 //! | file | content |
 //! |---|---|
@@ -6,12 +7,20 @@
 //! | `leader`, `follower` | a script that is exported, and what follows its frames |
 //! | `cuts` | the frames in two pieces, cut at each place |
 //! | `threads` | a leader and a follower, joined by a channel |
-//! | `long` | a commit whose text is too long for a frame |
+//! | `long` | a commit whose text is too long for a frame, and a large one in one piece |
+//! | `played` | scripts that are played, for the checks below |
+//! | `streams` | the frames of two domains from any commit on, and a hub of their follower |
+//! | `epochs` | the hub of the next epoch, moved and copied |
+//! | `shown` | the picture of a log, the places of a schema, the log of a book of owners |
 mod cuts;
+mod epochs;
 mod follower;
 mod full;
 mod leader;
 mod long;
+mod played;
+mod shown;
+mod streams;
 mod threads;
 
 use std::alloc::Global;
@@ -56,6 +65,12 @@ fn holds<R: Threads + Wait + Sync>(rt: &R, alloc: Global, name: &str) -> bool {
         "cut_in_two_at_every_place" => cuts::cut_in_two_at_every_place(alloc),
         "a_leader_and_a_follower" => threads::a_leader_and_a_follower(rt, alloc),
         "a_text_is_too_long" => long::a_text_is_too_long(alloc),
+        "a_large_piece_is_taken" => long::a_large_piece_is_taken(alloc),
+        "frames_of_two_domains" => streams::frames_of_two_domains(alloc),
+        "an_epoch_of_two_domains" => epochs::an_epoch_of_two_domains(alloc),
+        "pictures_of_logs" => shown::pictures_of_logs(alloc),
+        "places_of_a_schema" => shown::places_of_a_schema(alloc),
+        "the_log_of_a_book" => shown::the_log_of_a_book(alloc),
         _ => false,
     }
 }

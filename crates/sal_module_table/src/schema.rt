@@ -32,7 +32,7 @@ use sal_module::{BuildFault, Found, Modules, argument_of, better, check, check_o
 use sal_restrict::YangType;
 use sal_schema::{IdentityInfo, NodeInfo, SchemaTable};
 use sal_stmt::Stmt;
-use sal_typedefs::Typedefs;
+use sal_typedefs::{Tops, Typedefs};
 use sal_types::{NoMemory, Seq, Str, append};
 use std::alloc::Global;
 
@@ -211,10 +211,12 @@ struct Sources<'x, 'a> {
     alloc: Global,
     modules: &'a Modules,
     typedefs: &'x Typedefs<'a>,
+    tops: &'x Tops<'x, 'a>,
     forest: &'x [Branch],
     old: u32,
     ghost few: { length forest.now ≤ 65536 },
     ghost same: { typedefs.now ≡ modules.now } by { Prim.hlevel (codes, e.the_row.coded) },
+    ghost settled: { tops.now ≡ modules.now } by { Prim.hlevel (codes, e.the_row.coded) },
 }
 
 /// The first fault of the names of types, identities and leafrefs.
@@ -222,7 +224,7 @@ fn name_fault(sources: &Sources, of_leafrefs: Option<Found>) -> Result<Option<Fo
     requires { of_leafrefs ≡ least None (leads.all_faults sources.now.modules.now sources.now.forest.now) }
     ensures { IfOk result (λ found. found ≡ least None (spec.name_faults sources.now.modules.now sources.now.forest.now)) }
 {
-    let best = type_name_fault(sources.alloc, sources.modules, sources.typedefs)?;
+    let best = type_name_fault(sources.modules, sources.typedefs, sources.tops)?;
     let more = identity_fault(sources.alloc, sources.modules, sources.typedefs)?;
     Ok(merged(merged(best, more), of_leafrefs))
 }
@@ -339,9 +341,34 @@ fn judge_by_typedefs(sources: &Sources) -> Result<SchemaTable, BuildFault>
         sources.alloc,
         sources.modules,
         sources.typedefs,
+        sources.tops,
         sources.forest,
     )?;
     judge_by_types(sources, &typed)
+}
+
+/// The same over the modules' typedefs.
+fn judge_over(
+    alloc: Global,
+    modules: &Modules,
+    typedefs: &Typedefs,
+    old: u32,
+    forest: &Forest,
+) -> Result<SchemaTable, BuildFault>
+    requires few { length forest.now ≤ 65536 }
+    requires same { typedefs.now ≡ modules.now }
+    ensures { GivesUnless Fault.NoMemory (λ table. table) result (spec.judged_on old modules.now forest.now) }
+{
+    let tops = Tops::read(alloc, typedefs)?;
+    let sources = Sources {
+        alloc,
+        modules,
+        typedefs,
+        tops: &tops,
+        forest: forest.items(),
+        old,
+    };
+    judge_by_typedefs(&sources)
 }
 
 /// The table of a forest, or the first fault of types, then of lists. The modules before index `old` are those of an earlier version.
@@ -356,14 +383,7 @@ pub(crate) fn judge_on(
     ensures { GivesUnless Fault.NoMemory (λ table. table) result (spec.judged_on old modules.now forest.now) }
 {
     let typedefs = Typedefs::new(alloc, modules)?;
-    let sources = Sources {
-        alloc,
-        modules,
-        typedefs: &typedefs,
-        forest: forest.items(),
-        old,
-    };
-    judge_by_typedefs(&sources)
+    judge_over(alloc, modules, &typedefs, old, forest)
 }
 
 /// The table of a forest, or the first fault of types, then of lists. No module is of an earlier version.

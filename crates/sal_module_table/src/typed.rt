@@ -1,5 +1,5 @@
 //! The type statements of nodes, and their types.
-ghost use Rattle.std.specs.Prelude.{◌≡◌, ◌<◌, slice_index_or, ◌++◌, Some, IfOk, map, find, option_map, length, if◌then◌else◌};
+ghost use Rattle.std.specs.Prelude.{◌≡◌, ◌<◌, slice_index_or, ◌++◌, ◌∷◌, [], List, Some, IfOk, map, find, option_map, length, if◌then◌else◌};
 ghost use Rattle.std.specs.BTreeMap.{get};
 ghost use Rattle.std.specs.List.{slice_get};
 ghost use Rattle.std.specs.Option.{option_copied};
@@ -7,7 +7,9 @@ ghost use Rattle.sal_stmt.specs.declared.stmt.Stmt.TheViews.{out-Stmt};
 ghost use Rattle.sal_module.specs.declared.keyword.Keyword.TheVariants as word;
 ghost use Rattle.sal_module.specs.Statements.{is_named, subs_of};
 ghost use Rattle.sal_typedefs.specs.Leafrefs.{leafref_seen, stmt_in};
+ghost use Rattle.sal_stmt.specs.declared.stmt.Stmt.{Stmt as Statement};
 ghost use Rattle.sal_typedefs.specs.Spots.{site_in};
+ghost use Rattle.sal_typedefs.specs.Opened.{IsOpen, IsIn};
 ghost use Rattle.sal_module_table.specs.declared.typed.Place.{Place as Spot};
 ghost use Rattle.sal_module_table.specs.Leafrefs as leafrefs;
 ghost use Rattle.sal_module_table.specs.Typed as spec;
@@ -18,7 +20,7 @@ use sal_grouping::Branch;
 use sal_module::{Keyword, Modules, first_named};
 use sal_restrict::YangType;
 use sal_stmt::Stmt;
-use sal_typedefs::{Block, Leafref, Typedefs, judge_at, leafrefs_at};
+use sal_typedefs::{Leafref, Scope, Tops, Typedefs, judge_at, leafrefs_at};
 use sal_types::{NoMemory, append};
 use std::alloc::Global;
 use std::collections::BTreeMap;
@@ -128,109 +130,126 @@ fn own_places(alloc: Global, all: &[Typing]) -> Result<Vec<Place>, NoMemory>
 /// A module whose statements are visited, and the places to keep.
 #[derive(Drop)]
 struct Keeper<'x, 'a> {
-    alloc: Global,
     typedefs: &'x Typedefs<'a>,
     wanted: &'x Places,
     number: u32,
 }
 
-/// The type of a type statement in these blocks, or the empty type if it has a fault.
+/// The type of a type statement in the open blocks, or the empty type if it has a fault.
 fn stated_type<'j, 'x, 'a>(
-    keeper: &'j Keeper<'x, 'a>,
-    around: &'j [Block<'a>],
+    scope: &'j Scope<'x, 'a>,
     stmt: Option<&'a Stmt>,
 ) -> Result<YangType, NoMemory>
-    ensures { IfOk result (λ ty. ty ≡ leafrefs.stated_type keeper.now.typedefs.now (option_map (site_in keeper.now.number around.now) (option_copied stmt.entry))) }
+    requires { IsOpen scope.now }
+    ensures { IfOk result (λ ty. ty ≡ leafrefs.stated_type scope.now.typedefs.now (option_map (site_in scope.now.number scope.now.around.items) (option_copied stmt.entry))) }
 {
     let Some(stmt) = stmt else {
         return Ok(empty_type());
     };
-    let (fault, ty) = judge_at(keeper.alloc, keeper.typedefs, keeper.number, around, stmt)?;
+    let (fault, ty) = judge_at(scope, stmt)?;
     match fault {
         None => Ok(ty),
         Some(_found) => Ok(empty_type()),
     }
 }
 
-/// The leafrefs among a type statement in these blocks and those that it depends on.
+/// The leafrefs among a type statement in the open blocks and those that it depends on.
 fn stated_leafrefs<'j, 'x, 'a>(
-    keeper: &'j Keeper<'x, 'a>,
-    around: &'j [Block<'a>],
+    alloc: Global,
+    scope: &'j Scope<'x, 'a>,
     stmt: Option<&'a Stmt>,
 ) -> Result<Vec<Leafref<'a>>, NoMemory>
+    requires { IsOpen scope.now }
     ensures { IfOk result (λ all. map leafref_seen all.items
-        ≡ map stmt_in (leafrefs.stated_leafrefs keeper.now.typedefs.now (option_map (site_in keeper.now.number around.now) (option_copied stmt.entry)))) }
+        ≡ map stmt_in (leafrefs.stated_leafrefs scope.now.typedefs.now (option_map (site_in scope.now.number scope.now.around.items) (option_copied stmt.entry)))) }
 {
     match stmt {
-        None => Ok(Vec::new(keeper.alloc)),
-        Some(stmt) => leafrefs_at(keeper.alloc, keeper.typedefs, keeper.number, around, stmt),
+        None => Ok(Vec::new(alloc)),
+        Some(stmt) => leafrefs_at(scope, stmt),
     }
 }
 
-/// The entry for a statement, whose own block is the innermost of these.
+/// The entry for a statement, whose own block is the innermost of the open ones.
 fn own_at<'j, 'x, 'a>(
-    keeper: &'j Keeper<'x, 'a>,
-    around: &'j [Block<'a>],
+    alloc: Global,
+    scope: &'j Scope<'x, 'a>,
+    number: u32,
     stmt: &'a Stmt,
 ) -> Result<Typing<'a>, NoMemory>
-    ensures { IfOk result (λ own. spec.own_of own ≡ spec.own_with keeper.now.typedefs.now (spec.place keeper.now.number (out-Stmt stmt.now).at)
-        (option_map (site_in keeper.now.number around.now) (find (is_named word.Type) (subs_of stmt.now)))) }
+    requires { IsOpen scope.now }
+    ensures { IfOk result (λ own. spec.own_of own ≡ spec.own_with scope.now.typedefs.now (spec.place number (out-Stmt stmt.now).at)
+        (option_map (site_in scope.now.number scope.now.around.items) (find (is_named word.Type) (subs_of stmt.now)))) }
 {
     let sub = first_named(Keyword::Type, stmt.subs.items());
-    let ty = stated_type(keeper, around, sub)?;
-    let leafrefs = stated_leafrefs(keeper, around, sub)?;
+    let ty = stated_type(scope, sub)?;
+    let leafrefs = stated_leafrefs(alloc, scope, sub)?;
     Ok(Typing {
-        place: place_at(keeper.number, stmt),
+        place: place_at(number, stmt),
         ty,
         leafrefs,
     })
 }
 
-/// Adds the entry for a statement in these blocks, if it is wanted.
+/// Adds the entry for a statement, if it is wanted. Its own block is the innermost of the open ones.
 fn push_here<'j, 'x, 'a>(
     all: &mut Vec<Typing<'a>>,
-    keeper: &'j Keeper<'x, 'a>,
-    around: &mut Vec<Block<'a>>,
+    keeper: &Keeper<'x, 'a>,
+    scope: &'j Scope<'x, 'a>,
     stmt: &'a Stmt,
 ) -> Result<(), NoMemory>
-    ensures value { IfOk result (λ _. spec.owns all.new.items
-        ≡ spec.owns all.old.items ++ spec.own_here keeper.now.wanted.now keeper.now.typedefs.now (site_in keeper.now.number around.old.items stmt.now)) }
-    ensures around { IfOk result (λ _. around.new.items ≡ around.old.items) }
+    requires { IsOpen scope.now }
+    ensures { IfOk result (λ _. (around : List Statement) → IsIn keeper.now.typedefs.now keeper.now.number (around ++ stmt.now ∷ []) scope.now
+        → spec.owns all.new.items ≡ spec.owns all.old.items ++ spec.own_here keeper.now.wanted.now keeper.now.typedefs.now (site_in keeper.now.number around stmt.now)) }
 {
     if !keeper.wanted.contains_key(&place_at(keeper.number, stmt)) {
         return Ok(());
     }
-    append(around, Block::new(keeper.alloc, stmt)?)?;
-    let own = own_at(keeper, around, stmt)?;
-    append(all, own)?;
-    around.pop();
-    Ok(())
+    let alloc = *all.allocator();
+    let own = own_at(alloc, scope, keeper.number, stmt)?;
+    append(all, own)
 }
 
 // ---- all statements
 
 /// Adds the entries for a statement and for those in `levels` levels below it, if they are wanted.
-fn push_stmt<'j, 'x, 'a>(
+fn push_stmt<'x, 'a>(
     all: &mut Vec<Typing<'a>>,
-    keeper: &'j Keeper<'x, 'a>,
-    around: &mut Vec<Block<'a>>,
+    keeper: &Keeper<'x, 'a>,
+    scope: &mut Scope<'x, 'a>,
     levels: u32,
     stmt: &'a Stmt,
 ) -> Result<(), NoMemory>
+    requires { IsIn keeper.now.typedefs.now keeper.now.number scope.old.around.items scope.old }
     ensures value { IfOk result (λ _. spec.owns all.new.items
-        ≡ spec.owns all.old.items ++ spec.owns_in keeper.now.wanted.now levels keeper.now.typedefs.now (site_in keeper.now.number around.old.items stmt.now)) }
-    ensures around { IfOk result (λ _. around.new.items ≡ around.old.items) }
+        ≡ spec.owns all.old.items ++ spec.owns_in keeper.now.wanted.now levels keeper.now.typedefs.now (site_in keeper.now.number scope.old.around.items stmt.now)) }
+    ensures around { IfOk result (λ _. IsIn keeper.now.typedefs.now keeper.now.number scope.old.around.items scope.new) }
 {
-    push_here(all, keeper, around, stmt)?;
+    scope.enter(stmt)?;
+    push_here(all, keeper, scope, stmt)?;
     if levels == 0 {
+        scope.leave();
         return Ok(());
     }
-    append(around, Block::new(keeper.alloc, stmt)?)?;
     for sub in stmt.subs.items() {
-        push_stmt(all, keeper, around, levels - 1, sub)?;
+        push_stmt(all, keeper, scope, levels - 1, sub)?;
     }
-    around.pop();
+    scope.leave();
     Ok(())
+}
+
+/// Adds the entries of a module.
+fn push_module<'x, 'a>(
+    all: &mut Vec<Typing<'a>>,
+    keeper: &Keeper<'x, 'a>,
+    tops: &'x Tops<'x, 'a>,
+    stmt: &'a Stmt,
+) -> Result<(), NoMemory>
+    requires { tops.now ≡ keeper.now.typedefs.now }
+    ensures { IfOk result (λ _. spec.owns all.new.items
+        ≡ spec.owns all.old.items ++ spec.owns_in keeper.now.wanted.now 64 keeper.now.typedefs.now (site_in keeper.now.number [] stmt.now)) }
+{
+    let mut scope = tops.scope(keeper.number);
+    push_stmt(all, keeper, &mut scope, MAX_BLOCKS, stmt)
 }
 
 /// The wanted entries of all statements, in the order of the texts.
@@ -238,22 +257,22 @@ fn typings_of<'x, 'a>(
     alloc: Global,
     modules: &'a Modules,
     typedefs: &'x Typedefs<'a>,
+    tops: &'x Tops<'x, 'a>,
     wanted: &'x Places,
 ) -> Result<Vec<Typing<'a>>, NoMemory>
-    requires { typedefs.now ≡ modules.now }
+    requires typedefs { typedefs.now ≡ modules.now }
+    requires tops { tops.now ≡ modules.now }
     ensures { IfOk result (λ all. spec.owns all.items ≡ spec.owns_of wanted.now modules.now) }
 {
     let stmts = modules.items();
     let mut all = Vec::new(alloc);
-    let mut around = Vec::new(alloc);
     for (m, stmt) in stmts.iter().enumerate() {
         let keeper = Keeper {
-            alloc,
             typedefs,
             wanted,
             number: m as u32,
         };
-        push_stmt(&mut all, &keeper, &mut around, MAX_BLOCKS, stmt)?;
+        push_module(&mut all, &keeper, tops, stmt)?;
     }
     Ok(all)
 }
@@ -266,13 +285,15 @@ pub(crate) fn node_types<'x, 'a>(
     alloc: Global,
     modules: &'a Modules,
     typedefs: &'x Typedefs<'a>,
+    tops: &'x Tops<'x, 'a>,
     forest: &[Branch],
 ) -> Result<NodeTypes<'a>, NoMemory>
-    requires { typedefs.now ≡ modules.now }
+    requires typedefs { typedefs.now ≡ modules.now }
+    requires tops { tops.now ≡ modules.now }
     ensures { IfOk result (λ types. spec.AreTyped modules.now forest.now types) }
 {
     let wanted = by_place(alloc, &node_places(alloc, forest)?)?;
-    let all = typings_of(alloc, modules, typedefs, &wanted)?;
+    let all = typings_of(alloc, modules, typedefs, tops, &wanted)?;
     let places = by_place(alloc, &own_places(alloc, &all)?)?;
     Ok(NodeTypes { all, places })
 }

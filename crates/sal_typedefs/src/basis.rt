@@ -15,7 +15,10 @@ use sal_types::{NoMemory, Shared, append};
 use std::alloc::Global;
 
 /// The types of statements.
-pub(crate) fn types_of(alloc: Global, below: &[Shared<Judgement>]) -> Result<Vec<YangType>, NoMemory>
+pub(crate) fn types_of(
+    alloc: Global,
+    below: &[Shared<Judgement>],
+) -> Result<Vec<YangType>, NoMemory>
     ensures { IfOk result (λ types. types.items ≡ map (λ (d : Kept). d.ty) below.now) }
 {
     let mut types = Vec::with_capacity(alloc, below.len())?;

@@ -91,7 +91,14 @@ pub(crate) fn ranks_of(alloc: Global, typedefs: &Typedefs) -> Result<Vec<Ranks>,
     let mut ranking = Ranking { all, next: 1 };
     for m in &module_order(alloc, typedefs, stmts)? {
         if let Some(stmt) = stmts.get(*m) {
-            rank_stmt(&mut ranking, alloc, typedefs, number_of(*m), MAX_BLOCKS, stmt)?;
+            rank_stmt(
+                &mut ranking,
+                alloc,
+                typedefs,
+                number_of(*m),
+                MAX_BLOCKS,
+                stmt,
+            )?;
         }
     }
     Ok(ranking.all)

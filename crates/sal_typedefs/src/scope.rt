@@ -14,9 +14,9 @@ ghost use Rattle.sal_typedefs.specs.Opened as spec;
 use crate::block::Block;
 use crate::builtin::builtin_of;
 use crate::kept::{Parts, Settled, Slots, both, settled_outer, top_slots};
-use crate::ranks::Ranks;
 use crate::name::local;
 use crate::pattern::Look;
+use crate::ranks::Ranks;
 use crate::site_judge::judge_next;
 use crate::spot::{Inner, Spot, closest_inner};
 use crate::typedefs::Typedefs;
@@ -76,7 +76,10 @@ fn foreign<'s, 'x, 'a>(scope: &'s Scope<'x, 'a>, number: u32, name: &str) -> Opt
 }
 
 /// The settled type of the typedef that a type statement names.
-pub(crate) fn named<'s, 'x, 'a>(scope: &'s Scope<'x, 'a>, spot: &Spot<'s, 'a>) -> Option<&'s Settled>
+pub(crate) fn named<'s, 'x, 'a>(
+    scope: &'s Scope<'x, 'a>,
+    spot: &Spot<'s, 'a>,
+) -> Option<&'s Settled>
     requires ready { spec.IsOpen scope.now }
     requires outer { spot.now.outer.now ≡ scope.now.around.items }
     requires number { spot.now.module ≡ scope.now.number }

@@ -110,7 +110,9 @@ fn closest_outer<'a>(number: u32, blocks: &[Block<'a>], name: &str) -> Option<(u
 /// The same for inner blocks.
 pub(crate) fn closest_inner<'a>(
     number: u32,
-    list: &[Inner<'a>], name: &str) -> Option<(usize, &'a Stmt)>
+    list: &[Inner<'a>],
+    name: &str,
+) -> Option<(usize, &'a Stmt)>
     ensures value { option_map (spec.seen_in number list.now) result ≡ scopes.closest number name.now (reverse list.now) }
     ensures within { IfSome result (λ found. found.0 ≤ length list.now) }
 {

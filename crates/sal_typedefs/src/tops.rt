@@ -132,10 +132,7 @@ fn settle_module<'x, 'a>(
 }
 
 /// Settles the typedefs of all modules.
-fn settle_modules<'x, 'a>(
-    means: &Means<'x, 'a>,
-    order: &[usize],
-) -> Result<Vec<Slots>, NoMemory>
+fn settle_modules<'x, 'a>(means: &Means<'x, 'a>, order: &[usize]) -> Result<Vec<Slots>, NoMemory>
     ensures { IfOk result (λ kept. settled.AreTops (spec.world_of means.now) kept.items) }
 {
     let mut kept = empty_slots(means.alloc, means.typedefs.stmts())?;
@@ -146,11 +143,7 @@ fn settle_modules<'x, 'a>(
 }
 
 impl<'x, 'a> Tops<'x, 'a> {
-    fn with(
-        alloc: Global,
-        look: Look,
-        typedefs: &'x Typedefs<'a>,
-    ) -> Result<Tops<'x, 'a>, NoMemory>
+    fn with(alloc: Global, look: Look, typedefs: &'x Typedefs<'a>) -> Result<Tops<'x, 'a>, NoMemory>
         ensures { IfOk result (λ tops. tops ≡ typedefs.now) }
     {
         let order = module_order(alloc, typedefs, typedefs.stmts())?;

@@ -1,5 +1,5 @@
 //! All parts together: modules to the table of their schema, or to their first fault.
-ghost use Rattle.std.specs.Prelude.{◌≡◌, ◌≤◌, ◌<◌, ◌^◌, ◌++◌, ◌∷◌, [], List, None, IfOk, length, map, if◌then◌else◌};
+ghost use Rattle.std.specs.Prelude.{◌≡◌, ◌≤◌, ◌<◌, ◌^◌, ◌++◌, ◌∷◌, [], ℕ, List, None, IfOk, length, map, if◌then◌else◌};
 ghost use Rattle.std.specs.Coded.{codes};
 ghost use Rattle.sal_types.specs.Reading.{GivesUnless};
 ghost use Rattle.sal_stmt.specs.contracts.stmt.Stmt as e;
@@ -17,7 +17,7 @@ ghost use Rattle.sal_module_table.specs.Table.{infos_of};
 ghost use Rattle.sal_module_table.specs.Typed.{AreTyped};
 ghost use Rattle.sal_module_table.specs.Types as types;
 
-use crate::fill::{filled_of, type_at};
+use crate::fill::{filled_of, take_type};
 use crate::identities::{identity_fault, identity_infos};
 use crate::info::{infos_of as nodes_of, is_typed};
 use crate::leafrefs::{Targets, find_targets};
@@ -33,7 +33,7 @@ use sal_restrict::YangType;
 use sal_schema::{IdentityInfo, NodeInfo, SchemaTable};
 use sal_stmt::Stmt;
 use sal_typedefs::{Tops, Typedefs};
-use sal_types::{NoMemory, Seq, Str, append};
+use sal_types::{NoMemory, Seq, Shared, Str, append};
 use std::alloc::Global;
 
 /// The first of two faults: of equals the one given first.
@@ -53,32 +53,33 @@ fn types_of(
     alloc: Global,
     modules: &Modules,
     forest: &[Branch],
-    own: Vec<YangType>,
+    own: Vec<Shared<YangType>>,
     edges: &[Vec<usize>],
 ) -> Result<Vec<YangType>, NoMemory>
     requires own { own.items ≡ leads.own_types modules.now forest.now }
     requires edges { lists edges.now ≡ leads.edges_of modules.now forest.now }
     ensures { IfOk result (λ types. types.items ≡ leads.types_of modules.now forest.now) }
 {
-    let filled = filled_of(alloc, own, edges)?;
+    let mut filled = filled_of(alloc, own, edges)?;
     let mut types = Vec::new(alloc);
     for (k, branch) in forest.iter().enumerate() {
-        push_type(&mut types, alloc, is_typed(modules, branch), &filled, k)?;
+        push_type(&mut types, &mut filled, is_typed(modules, branch), k)?;
     }
     Ok(types)
 }
 
+/// Moves the type of this number, if the node has one.
 fn push_type(
     types: &mut Vec<YangType>,
-    alloc: Global,
+    filled: &mut Vec<YangType>,
     typed: bool,
-    filled: &[YangType],
     k: usize,
 ) -> Result<(), NoMemory>
-    ensures { IfOk result (λ _. types.new.items ≡ types.old.items ++ (if typed then fillings.type_at filled.now k ∷ [] else [])) }
+    ensures types { IfOk result (λ _. types.new.items ≡ types.old.items ++ (if typed then fillings.type_at filled.old.items k ∷ [] else [])) }
+    ensures others { IfOk result (λ _. (j : ℕ) → k < j → fillings.type_at filled.new.items j ≡ fillings.type_at filled.old.items j) }
 {
     if typed {
-        append(types, type_at(alloc, filled, k)?)?;
+        append(types, take_type(filled, k))?;
     }
     Ok(())
 }
@@ -207,11 +208,11 @@ fn table_of(
 
 /// The input for a table: modules, their typedefs and the forest of their nodes. The modules before index `old` are those of an earlier version.
 #[derive(Drop)]
-struct Sources<'x, 'a> {
+struct Sources<'x, 't, 'a> {
     alloc: Global,
     modules: &'a Modules,
     typedefs: &'x Typedefs<'a>,
-    tops: &'x Tops<'x, 'a>,
+    tops: &'x Tops<'t, 'a>,
     forest: &'x [Branch],
     old: u32,
     ghost few: { length forest.now ≤ 65536 },
@@ -348,12 +349,12 @@ fn judge_by_typedefs(sources: &Sources) -> Result<SchemaTable, BuildFault>
 }
 
 /// The same over the modules' typedefs.
-fn judge_over(
+fn judge_over<'x, 'a>(
     alloc: Global,
-    modules: &Modules,
-    typedefs: &Typedefs,
+    modules: &'a Modules,
+    typedefs: &'x Typedefs<'a>,
     old: u32,
-    forest: &Forest,
+    forest: &'x Forest,
 ) -> Result<SchemaTable, BuildFault>
     requires few { length forest.now ≤ 65536 }
     requires same { typedefs.now ≡ modules.now }

@@ -11,6 +11,7 @@ ghost use Rattle.sal_stmt.specs.declared.stmt.Stmt.{Stmt as Statement};
 ghost use Rattle.sal_typedefs.specs.Spots.{site_in};
 ghost use Rattle.sal_typedefs.specs.Opened.{IsOpen, IsIn};
 ghost use Rattle.sal_module_table.specs.declared.typed.Place.{Place as Spot};
+ghost use Rattle.sal_module_table.specs.Filled.{empty};
 ghost use Rattle.sal_module_table.specs.Leafrefs as leafrefs;
 ghost use Rattle.sal_module_table.specs.Typed as spec;
 
@@ -21,7 +22,7 @@ use sal_module::{Keyword, Modules, first_named};
 use sal_restrict::YangType;
 use sal_stmt::Stmt;
 use sal_typedefs::{Leafref, Scope, Tops, Typedefs, judge_at, leafrefs_at};
-use sal_types::{NoMemory, append};
+use sal_types::{Duplicate, NoMemory, Shared, append};
 use std::alloc::Global;
 use std::collections::BTreeMap;
 
@@ -41,7 +42,7 @@ type Places = BTreeMap<Place, usize>;
 #[derive(Drop)]
 pub(crate) struct Typing<'a> {
     pub place: Place,
-    pub ty: YangType,
+    pub ty: Shared<YangType>,
     pub leafrefs: Vec<Leafref<'a>>,
 }
 
@@ -153,6 +154,20 @@ fn stated_type<'j, 'x, 'a>(
     }
 }
 
+/// The same, to be shared by nodes.
+fn shared_type<'j, 'x, 'a>(
+    alloc: Global,
+    scope: &'j Scope<'x, 'a>,
+    stmt: Option<&'a Stmt>,
+) -> Result<Shared<YangType>, NoMemory>
+    requires { IsOpen scope.now }
+    ensures { IfOk result (λ ty. ty ≡ leafrefs.stated_type scope.now.typedefs.now (option_map (site_in scope.now.number scope.now.around.items) (option_copied stmt.entry))) }
+{
+    let ty = stated_type(scope, stmt)?;
+    let shared = Shared::new(alloc, ty)?;
+    Ok(shared)
+}
+
 /// The leafrefs among a type statement in the open blocks and those that it depends on.
 fn stated_leafrefs<'j, 'x, 'a>(
     alloc: Global,
@@ -181,7 +196,7 @@ fn own_at<'j, 'x, 'a>(
         (option_map (site_in scope.now.number scope.now.around.items) (find (is_named word.Type) (subs_of stmt.now)))) }
 {
     let sub = first_named(Keyword::Type, stmt.subs.items());
-    let ty = stated_type(scope, sub)?;
+    let ty = shared_type(alloc, scope, sub)?;
     let leafrefs = stated_leafrefs(alloc, scope, sub)?;
     Ok(Typing {
         place: place_at(number, stmt),
@@ -206,7 +221,8 @@ fn push_here<'j, 'x, 'a>(
     }
     let alloc = *all.allocator();
     let own = own_at(alloc, scope, keeper.number, stmt)?;
-    append(all, own)
+    append(all, own)?;
+    Ok(())
 }
 
 // ---- all statements
@@ -238,10 +254,10 @@ fn push_stmt<'x, 'a>(
 }
 
 /// Adds the entries of a module.
-fn push_module<'x, 'a>(
+fn push_module<'x, 't, 'a>(
     all: &mut Vec<Typing<'a>>,
     keeper: &Keeper<'x, 'a>,
-    tops: &'x Tops<'x, 'a>,
+    tops: &'x Tops<'t, 'a>,
     stmt: &'a Stmt,
 ) -> Result<(), NoMemory>
     requires { tops.now ≡ keeper.now.typedefs.now }
@@ -253,11 +269,11 @@ fn push_module<'x, 'a>(
 }
 
 /// The wanted entries of all statements, in the order of the texts.
-fn typings_of<'x, 'a>(
+fn typings_of<'x, 't, 'a>(
     alloc: Global,
     modules: &'a Modules,
     typedefs: &'x Typedefs<'a>,
-    tops: &'x Tops<'x, 'a>,
+    tops: &'x Tops<'t, 'a>,
     wanted: &'x Places,
 ) -> Result<Vec<Typing<'a>>, NoMemory>
     requires typedefs { typedefs.now ≡ modules.now }
@@ -279,13 +295,12 @@ fn typings_of<'x, 'a>(
 
 /// The types of these nodes' type statements, with leafrefs as paths.
 ///
-/// It takes time linear in the statements, in the nodes, and in what their type statements depend on, times the logarithm of
-/// the nodes.
-pub(crate) fn node_types<'x, 'a>(
+/// It takes time linear in the statements and the nodes, times the logarithm of the nodes, and in what types with leafrefs depend on.
+pub(crate) fn node_types<'x, 't, 'a>(
     alloc: Global,
     modules: &'a Modules,
     typedefs: &'x Typedefs<'a>,
-    tops: &'x Tops<'x, 'a>,
+    tops: &'x Tops<'t, 'a>,
     forest: &[Branch],
 ) -> Result<NodeTypes<'a>, NoMemory>
     requires typedefs { typedefs.now ≡ modules.now }
@@ -317,22 +332,35 @@ fn typing_of<'t, 'a>(types: &'t NodeTypes<'a>, branch: &Branch) -> Option<&'t Ty
     }
 }
 
+/// The type without values, to be shared.
+fn shared_empty(alloc: Global) -> Result<Shared<YangType>, NoMemory>
+    ensures { IfOk result (λ ty. ty ≡ empty) }
+{
+    let ty = empty_type();
+    let shared = Shared::new(alloc, ty)?;
+    Ok(shared)
+}
+
 fn type_of_node(
     alloc: Global,
     modules: &Modules,
     types: &NodeTypes,
     branch: &Branch,
-) -> Result<YangType, NoMemory>
+) -> Result<Shared<YangType>, NoMemory>
     requires { spec.AreFirst (spec.places_of (spec.owns types.now.all.items)) types.now.places }
     ensures { IfOk result (λ ty. spec.found_for (spec.owns types.now.all.items) branch.now ≡ spec.own_of_node modules.now branch.now
         → ty ≡ leafrefs.stated_type modules.now (leafrefs.type_of modules.now branch.now)) }
 {
     if !is_typed(modules, branch) {
-        return Ok(empty_type());
+        let ty = shared_empty(alloc)?;
+        return Ok(ty);
     }
     match typing_of(types, branch) {
-        None => Ok(empty_type()),
-        Some(own) => own.ty.copy(alloc),
+        None => {
+            let ty = shared_empty(alloc)?;
+            Ok(ty)
+        }
+        Some(own) => own.ty.copy(),
     }
 }
 
@@ -383,7 +411,7 @@ pub(crate) fn own_types(
     modules: &Modules,
     types: &NodeTypes,
     forest: &[Branch],
-) -> Result<Vec<YangType>, NoMemory>
+) -> Result<Vec<Shared<YangType>>, NoMemory>
     requires { spec.AreTyped modules.now forest.now types.now }
     ensures { IfOk result (λ own. own.items ≡ leafrefs.own_types modules.now forest.now) }
 {

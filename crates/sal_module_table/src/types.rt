@@ -122,10 +122,10 @@ fn with_stmt<'x, 'a>(
 }
 
 /// The least fault of this kind in a module, with this one.
-fn with_module<'x, 'a>(
+fn with_module<'x, 't, 'a>(
     best: Option<Found>,
     typedefs: &'x Typedefs<'a>,
-    tops: &'x Tops<'x, 'a>,
+    tops: &'x Tops<'t, 'a>,
     asked: Asked,
     number: u32,
     stmt: &'a Stmt,
@@ -143,10 +143,10 @@ fn with_module<'x, 'a>(
 }
 
 /// The least fault of this kind of all type statements, or none.
-fn type_fault<'x, 'a>(
+fn type_fault<'x, 't, 'a>(
     modules: &'a Modules,
     typedefs: &'x Typedefs<'a>,
-    tops: &'x Tops<'x, 'a>,
+    tops: &'x Tops<'t, 'a>,
     asked: Asked,
 ) -> Result<Option<Found>, NoMemory>
     requires typedefs { typedefs.now ≡ modules.now }
@@ -163,11 +163,11 @@ fn type_fault<'x, 'a>(
 
 /// The first fault of names in type statements, or none (RFC 7950 sections 5.5, 7.3 and 9.9.2).
 ///
-/// It takes time linear in the statements, and in what each type statement depends on.
-pub(crate) fn type_name_fault<'x, 'a>(
+/// It takes time linear in the statements, with the logarithm of the typedefs for each, unless typedefs have a cycle.
+pub(crate) fn type_name_fault<'x, 't, 'a>(
     modules: &'a Modules,
     typedefs: &'x Typedefs<'a>,
-    tops: &'x Tops<'x, 'a>,
+    tops: &'x Tops<'t, 'a>,
 ) -> Result<Option<Found>, NoMemory>
     requires typedefs { typedefs.now ≡ modules.now }
     requires tops { tops.now ≡ modules.now }
@@ -178,7 +178,7 @@ pub(crate) fn type_name_fault<'x, 'a>(
 
 /// The first fault of restrictions and patterns in type statements, or none (RFC 7950 section 9).
 ///
-/// It takes time linear in the statements, and in what each type statement depends on.
+/// It takes time linear in the statements, with the logarithm of the typedefs for each, unless typedefs have a cycle.
 pub(crate) fn type_other_fault<'x, 'a>(
     alloc: Global,
     modules: &'a Modules,
@@ -192,10 +192,10 @@ pub(crate) fn type_other_fault<'x, 'a>(
 }
 
 /// The same over typedefs that are settled.
-fn others_over<'x, 'a>(
+fn others_over<'x, 't, 'a>(
     modules: &'a Modules,
     typedefs: &'x Typedefs<'a>,
-    tops: &'x Tops<'x, 'a>,
+    tops: &'x Tops<'t, 'a>,
 ) -> Result<Option<Found>, NoMemory>
     requires typedefs { typedefs.now ≡ modules.now }
     requires tops { tops.now ≡ modules.now }

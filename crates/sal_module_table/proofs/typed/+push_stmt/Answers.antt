@@ -13,7 +13,7 @@ pub push_here-requires : goal.push_here-requires
 push_here-requires t c = (grown-in c.args.scope.now c.enter.new.self (c.args.stmt.now ∷ []) c.args.keeper.now.typedefs.now c.args.keeper.now.number c.args.scope.now.around.items c.in_ok-enter.ensures c.requires).ready
 
 pub leave-requires : goal.leave-requires
-leave-requires t c = (grown-in c.args.scope.now c.enter.new.self (c.args.stmt.now ∷ []) c.args.keeper.now.typedefs.now c.args.keeper.now.number c.args.scope.now.around.items c.in_ok-enter.ensures c.requires).ready
+leave-requires t c = record { ready = (grown-in c.args.scope.now c.enter.new.self (c.args.stmt.now ∷ []) c.args.keeper.now.typedefs.now c.args.keeper.now.number c.args.scope.now.around.items c.in_ok-enter.ensures c.requires).ready }
 
 pub returns-then-levels-eq0-clause-value : goal.returns-then-levels-eq0-clause-value
 returns-then-levels-eq0-clause-value t c =
@@ -28,6 +28,9 @@ returns-then-levels-eq0-clause-around t c =
     let inner = grown-in c.args.scope.now c.enter.new.self (c.args.stmt.now ∷ []) a.keeper.now.typedefs.now a.keeper.now.number a.scope.now.around.items c.in_ok-enter.ensures c.requires in
     c.leave.ensures a.keeper.now.typedefs.now a.keeper.now.number a.scope.now.around.items a.stmt.now inner
 
+pub enter-requires : goal.enter-requires
+enter-requires t c = record { ready = c.requires.ready }
+
 pub loop-sub-init : goal.loop-sub-init
 loop-sub-init t c =
     let a = c.args in
@@ -35,7 +38,7 @@ loop-sub-init t c =
     (own-in a.keeper.now.typedefs.now a.keeper.now.number (a.scope.now.around.items ++ a.stmt.now ∷ []) c.enter.new.self inner, sym (append-nil (owns c.push_here.new.all.items)))
 
 pub push_stmt-requires : goal.push_stmt-requires
-push_stmt-requires t c = own-in c.args.keeper.now.typedefs.now c.args.keeper.now.number c.enter.new.self.around.items c.loop-sub.scope c.loop-sub.invariant.0
+push_stmt-requires t c = (omega (arith, c.decreases, c.if-levels-eq0.false), own-in c.args.keeper.now.typedefs.now c.args.keeper.now.number c.enter.new.self.around.items c.loop-sub.scope c.loop-sub.invariant.0)
 
 pub loop-sub-preserved : goal.loop-sub-preserved
 loop-sub-preserved t c =
@@ -47,8 +50,8 @@ loop-sub-preserved t c =
           (owns c.push_here.new.all.items) (owns c.loop-sub.all.items) (owns c.push_stmt.new.all.items) inside (search rules) c.loop-sub.invariant.0.around_are c.loop-sub.invariant.1 c.in_ok-push_stmt.ensures.value,
     )
 
-pub leave-2-requires : goal.leave-2-requires
-leave-2-requires t c = c.loop-sub.invariant.0.ready
+pub leave-requires-2 : goal.leave-requires-2
+leave-requires-2 t c = record { ready = c.loop-sub.invariant.0.ready }
 
 pub returns-clause-value : goal.returns-clause-value
 returns-clause-value t c =

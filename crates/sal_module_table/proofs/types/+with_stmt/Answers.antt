@@ -21,13 +21,16 @@ returns-then-levels-eq0-clause-value t c =
     let here = rw (c.requires.modules_are, c.requires.number) at c.in_ok-best.ensures in
     faults-last a.judge.now.asked a.judge.now.typedefs.now a.levels site a.best c.in_ok-best.best (sym c.is_read.ensures ∙ c.if-not-is_read.false) (omega arith) here
 
+pub enter-requires : goal.enter-requires
+enter-requires t c = record { ready = c.requires.ready }
+
 pub loop-sub-init : goal.loop-sub-init
 loop-sub-init t c =
     let a = c.args in
     (own-in a.judge.now.typedefs.now a.judge.now.number (a.scope.now.around.items ++ a.stmt.now ∷ []) c.enter.new.self (grown-in c.args.scope.now c.enter.new.self (c.args.stmt.now ∷ []) a.judge.now.typedefs.now a.judge.now.number a.scope.now.around.items c.in_ok-enter.ensures c.requires), refl)
 
 pub with_stmt-requires : goal.with_stmt-requires
-with_stmt-requires t c = own-in c.args.judge.now.typedefs.now c.args.judge.now.number c.enter.new.self.around.items c.loop-sub.scope c.loop-sub.invariant.0
+with_stmt-requires t c = (omega (arith, c.decreases, c.if-levels-eq0.false), own-in c.args.judge.now.typedefs.now c.args.judge.now.number c.enter.new.self.around.items c.loop-sub.scope c.loop-sub.invariant.0)
 
 pub loop-sub-preserved : goal.loop-sub-preserved
 loop-sub-preserved t c =
@@ -40,7 +43,7 @@ loop-sub-preserved t c =
     )
 
 pub leave-requires : goal.leave-requires
-leave-requires t c = c.loop-sub.invariant.0.ready
+leave-requires t c = record { ready = c.loop-sub.invariant.0.ready }
 
 pub returns-clause-value : goal.returns-clause-value
 returns-clause-value t c =

@@ -8,8 +8,9 @@ ghost use Rattle.sal_module_table.specs.Filled as spec;
 
 use crate::order::{Order, order_of, out_of, stands_at};
 use sal_restrict::YangType;
-use sal_types::{NoMemory, Seq, append};
+use sal_types::{NoMemory, Seq, Shared, append};
 use std::alloc::Global;
+use std::mem;
 
 /// The type without values.
 pub(crate) fn empty_type() -> YangType
@@ -19,7 +20,7 @@ pub(crate) fn empty_type() -> YangType
 }
 
 /// A copy of the type of this number.
-pub(crate) fn type_at(alloc: Global, all: &[YangType], k: usize) -> Result<YangType, NoMemory>
+fn type_at(alloc: Global, all: &[YangType], k: usize) -> Result<YangType, NoMemory>
     ensures { IfOk result (λ t. t ≡ spec.type_at all.now k) }
 {
     if k < all.len() {
@@ -27,6 +28,17 @@ pub(crate) fn type_at(alloc: Global, all: &[YangType], k: usize) -> Result<YangT
     } else {
         Ok(YangType::Empty)
     }
+}
+
+/// Hands out the type of this number, and leaves the type without values.
+pub(crate) fn take_type(all: &mut Vec<YangType>, k: usize) -> YangType
+    ensures value { result ≡ spec.type_at all.old.items k }
+    ensures others { (j : ℕ) → k < j → spec.type_at all.new.items j ≡ spec.type_at all.old.items j }
+{
+    if k < all.len() {
+        return mem::replace(&mut all[k], YangType::Empty);
+    }
+    YangType::Empty
 }
 
 /// Copies of the types of these numbers.
@@ -135,9 +147,25 @@ fn filled(alloc: Global, t: &YangType, types: &[YangType]) -> Result<YangType, N
 
 // ---- all types
 
+/// The stated type of this number, with the types of the targets of its leafrefs in their order.
+fn own_filled(
+    alloc: Global,
+    own: &[Shared<YangType>],
+    types: &[YangType],
+    k: usize,
+) -> Result<YangType, NoMemory>
+    ensures { IfOk result (λ t. t ≡ spec.filled (spec.type_at own.now k) types.now) }
+{
+    if k < own.len() {
+        filled(alloc, own[k].value(), types)
+    } else {
+        filled(alloc, &empty_type(), types)
+    }
+}
+
 fn filled_at(
     alloc: Global,
-    own: &[YangType],
+    own: &[Shared<YangType>],
     edges: &[Vec<usize>],
     all: &[YangType],
     k: usize,
@@ -145,18 +173,14 @@ fn filled_at(
     ensures { IfOk result (λ t. t ≡ spec.filled_at own.now (lists edges.now) (spec.type_at all.now) k) }
 {
     let types = types_at(alloc, all, out_of(edges, k))?;
-    if k < own.len() {
-        filled(alloc, &own[k], &types)
-    } else {
-        filled(alloc, &empty_type(), &types)
-    }
+    own_filled(alloc, own, &types, k)
 }
 
 /// Computes the type of this number from those of its targets.
 fn place_type(
     all: &mut Vec<YangType>,
     alloc: Global,
-    own: &[YangType],
+    own: &[Shared<YangType>],
     edges: &[Vec<usize>],
     k: usize,
 ) -> Result<(), NoMemory>
@@ -184,7 +208,7 @@ fn empty_types(alloc: Global, count: usize) -> Result<Vec<YangType>, NoMemory>
 
 fn types_by(
     alloc: Global,
-    own: &[YangType],
+    own: &[Shared<YangType>],
     edges: &[Vec<usize>],
     order: &Order,
 ) -> Result<Vec<YangType>, NoMemory>
@@ -203,7 +227,7 @@ fn types_by(
 /// The type of one node, in at most this many steps.
 fn type_in(
     alloc: Global,
-    own: &[YangType],
+    own: &[Shared<YangType>],
     edges: &[Vec<usize>],
     steps: usize,
     k: usize,
@@ -217,15 +241,14 @@ fn type_in(
     for target in out_of(edges, k) {
         append(&mut types, type_in(alloc, own, edges, steps - 1, *target)?)?;
     }
-    let stated = type_at(alloc, own, k)?;
-    let t = filled(alloc, &stated, &types)?;
+    let t = own_filled(alloc, own, &types, k)?;
     Ok(t)
 }
 
 /// The types of all nodes, for edges that may have cycles.
 fn types_slowly(
     alloc: Global,
-    own: &[YangType],
+    own: &[Shared<YangType>],
     edges: &[Vec<usize>],
 ) -> Result<Vec<YangType>, NoMemory>
     ensures count { IfOk result (λ all. length all.items ≡ length edges.now) }
@@ -244,7 +267,7 @@ fn types_slowly(
 /// path is followed by itself.
 fn filled_types(
     alloc: Global,
-    own: &[YangType],
+    own: &[Shared<YangType>],
     edges: &[Vec<usize>],
 ) -> Result<Vec<YangType>, NoMemory>
     ensures count { IfOk result (λ all. length all.items ≡ length edges.now) }
@@ -259,7 +282,7 @@ fn filled_types(
 /// The same for types that the function owns.
 pub(crate) fn filled_of(
     alloc: Global,
-    own: Vec<YangType>,
+    own: Vec<Shared<YangType>>,
     edges: &[Vec<usize>],
 ) -> Result<Vec<YangType>, NoMemory>
     ensures count { IfOk result (λ all. length all.items ≡ length edges.now) }

@@ -21,9 +21,9 @@
 //! let nodes = table.nodes.items().len();
 //! ```
 //!
-//! Cost: linear in the statements and the nodes, times the logarithm of the nodes, if no type depends on many others. Each type
-//! statement is evaluated with all that it depends on, and each identity lists all from which it is derived; an augment's target is
-//! looked for along the tree, and augments in rounds.
+//! Cost: linear in the statements and the nodes, times the logarithm of the nodes, and in the types of the table. Each typedef is judged
+//! once for each check, and what names it shares the result; leafrefs are looked for among all that a type depends on, and each identity
+//! lists all from which it is derived; an augment's target is looked for along the tree, and augments in rounds.
 //! Recursion is no deeper than the blocks, unless identities or leafrefs have a cycle.
 //! `next_version` costs what `table_of_modules` costs for all statements, a second tree of nodes, and a copy of both tables.
 #![tactic(auto)]

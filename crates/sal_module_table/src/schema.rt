@@ -1,5 +1,5 @@
 //! All parts together: modules to the table of their schema, or to their first fault.
-ghost use Rattle.std.specs.Prelude.{◌≡◌, ◌≤◌, ◌<◌, ◌^◌, ◌++◌, ◌∷◌, [], List, None, IfOk, length, map, if◌then◌else◌};
+ghost use Rattle.std.specs.Prelude.{◌≡◌, ◌≤◌, ◌<◌, ◌^◌, ◌++◌, ◌∷◌, [], ℕ, List, None, IfOk, length, map, if◌then◌else◌};
 ghost use Rattle.std.specs.Coded.{codes};
 ghost use Rattle.sal_types.specs.Reading.{GivesUnless};
 ghost use Rattle.sal_stmt.specs.contracts.stmt.Stmt as e;
@@ -17,7 +17,7 @@ ghost use Rattle.sal_module_table.specs.Table.{infos_of};
 ghost use Rattle.sal_module_table.specs.Typed.{AreTyped};
 ghost use Rattle.sal_module_table.specs.Types as types;
 
-use crate::fill::{filled_of, type_at};
+use crate::fill::{filled_of, take_type};
 use crate::identities::{identity_fault, identity_infos};
 use crate::info::{infos_of as nodes_of, is_typed};
 use crate::leafrefs::{Targets, find_targets};
@@ -32,8 +32,8 @@ use sal_module::{BuildFault, Found, Modules, argument_of, better, check, check_o
 use sal_restrict::YangType;
 use sal_schema::{IdentityInfo, NodeInfo, SchemaTable};
 use sal_stmt::Stmt;
-use sal_typedefs::Typedefs;
-use sal_types::{NoMemory, Seq, Str, append};
+use sal_typedefs::{Tops, Typedefs};
+use sal_types::{NoMemory, Seq, Shared, Str, append};
 use std::alloc::Global;
 
 /// The first of two faults: of equals the one given first.
@@ -53,32 +53,33 @@ fn types_of(
     alloc: Global,
     modules: &Modules,
     forest: &[Branch],
-    own: Vec<YangType>,
+    own: Vec<Shared<YangType>>,
     edges: &[Vec<usize>],
 ) -> Result<Vec<YangType>, NoMemory>
     requires own { own.items ≡ leads.own_types modules.now forest.now }
     requires edges { lists edges.now ≡ leads.edges_of modules.now forest.now }
     ensures { IfOk result (λ types. types.items ≡ leads.types_of modules.now forest.now) }
 {
-    let filled = filled_of(alloc, own, edges)?;
+    let mut filled = filled_of(alloc, own, edges)?;
     let mut types = Vec::new(alloc);
     for (k, branch) in forest.iter().enumerate() {
-        push_type(&mut types, alloc, is_typed(modules, branch), &filled, k)?;
+        push_type(&mut types, &mut filled, is_typed(modules, branch), k)?;
     }
     Ok(types)
 }
 
+/// Moves the type of this number, if the node has one.
 fn push_type(
     types: &mut Vec<YangType>,
-    alloc: Global,
+    filled: &mut Vec<YangType>,
     typed: bool,
-    filled: &[YangType],
     k: usize,
 ) -> Result<(), NoMemory>
-    ensures { IfOk result (λ _. types.new.items ≡ types.old.items ++ (if typed then fillings.type_at filled.now k ∷ [] else [])) }
+    ensures types { IfOk result (λ _. types.new.items ≡ types.old.items ++ (if typed then fillings.type_at filled.old.items k ∷ [] else [])) }
+    ensures others { IfOk result (λ _. (j : ℕ) → k < j → fillings.type_at filled.new.items j ≡ fillings.type_at filled.old.items j) }
 {
     if typed {
-        append(types, type_at(alloc, filled, k)?)?;
+        append(types, take_type(filled, k))?;
     }
     Ok(())
 }
@@ -207,14 +208,16 @@ fn table_of(
 
 /// The input for a table: modules, their typedefs and the forest of their nodes. The modules before index `old` are those of an earlier version.
 #[derive(Drop)]
-struct Sources<'x, 'a> {
+struct Sources<'x, 't, 'a> {
     alloc: Global,
     modules: &'a Modules,
     typedefs: &'x Typedefs<'a>,
+    tops: &'x Tops<'t, 'a>,
     forest: &'x [Branch],
     old: u32,
     ghost few: { length forest.now ≤ 65536 },
     ghost same: { typedefs.now ≡ modules.now } by { Prim.hlevel (codes, e.the_row.coded) },
+    ghost settled: { tops.now ≡ modules.now } by { Prim.hlevel (codes, e.the_row.coded) },
 }
 
 /// The first fault of the names of types, identities and leafrefs.
@@ -222,7 +225,7 @@ fn name_fault(sources: &Sources, of_leafrefs: Option<Found>) -> Result<Option<Fo
     requires { of_leafrefs ≡ least None (leads.all_faults sources.now.modules.now sources.now.forest.now) }
     ensures { IfOk result (λ found. found ≡ least None (spec.name_faults sources.now.modules.now sources.now.forest.now)) }
 {
-    let best = type_name_fault(sources.alloc, sources.modules, sources.typedefs)?;
+    let best = type_name_fault(sources.modules, sources.typedefs, sources.tops)?;
     let more = identity_fault(sources.alloc, sources.modules, sources.typedefs)?;
     Ok(merged(merged(best, more), of_leafrefs))
 }
@@ -339,9 +342,34 @@ fn judge_by_typedefs(sources: &Sources) -> Result<SchemaTable, BuildFault>
         sources.alloc,
         sources.modules,
         sources.typedefs,
+        sources.tops,
         sources.forest,
     )?;
     judge_by_types(sources, &typed)
+}
+
+/// The same over the modules' typedefs.
+fn judge_over<'x, 'a>(
+    alloc: Global,
+    modules: &'a Modules,
+    typedefs: &'x Typedefs<'a>,
+    old: u32,
+    forest: &'x Forest,
+) -> Result<SchemaTable, BuildFault>
+    requires few { length forest.now ≤ 65536 }
+    requires same { typedefs.now ≡ modules.now }
+    ensures { GivesUnless Fault.NoMemory (λ table. table) result (spec.judged_on old modules.now forest.now) }
+{
+    let tops = Tops::read(alloc, typedefs)?;
+    let sources = Sources {
+        alloc,
+        modules,
+        typedefs,
+        tops: &tops,
+        forest: forest.items(),
+        old,
+    };
+    judge_by_typedefs(&sources)
 }
 
 /// The table of a forest, or the first fault of types, then of lists. The modules before index `old` are those of an earlier version.
@@ -356,14 +384,7 @@ pub(crate) fn judge_on(
     ensures { GivesUnless Fault.NoMemory (λ table. table) result (spec.judged_on old modules.now forest.now) }
 {
     let typedefs = Typedefs::new(alloc, modules)?;
-    let sources = Sources {
-        alloc,
-        modules,
-        typedefs: &typedefs,
-        forest: forest.items(),
-        old,
-    };
-    judge_by_typedefs(&sources)
+    judge_over(alloc, modules, &typedefs, old, forest)
 }
 
 /// The table of a forest, or the first fault of types, then of lists. No module is of an earlier version.

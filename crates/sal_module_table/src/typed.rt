@@ -1,5 +1,5 @@
 //! The type statements of nodes, and their types.
-ghost use Rattle.std.specs.Prelude.{◌≡◌, ◌<◌, slice_index_or, ◌++◌, Some, IfOk, map, find, option_map, length, if◌then◌else◌};
+ghost use Rattle.std.specs.Prelude.{◌≡◌, ◌<◌, slice_index_or, ◌++◌, ◌∷◌, [], List, Some, IfOk, map, find, option_map, length, if◌then◌else◌};
 ghost use Rattle.std.specs.BTreeMap.{get};
 ghost use Rattle.std.specs.List.{slice_get};
 ghost use Rattle.std.specs.Option.{option_copied};
@@ -7,8 +7,11 @@ ghost use Rattle.sal_stmt.specs.declared.stmt.Stmt.TheViews.{out-Stmt};
 ghost use Rattle.sal_module.specs.declared.keyword.Keyword.TheVariants as word;
 ghost use Rattle.sal_module.specs.Statements.{is_named, subs_of};
 ghost use Rattle.sal_typedefs.specs.Leafrefs.{leafref_seen, stmt_in};
+ghost use Rattle.sal_stmt.specs.declared.stmt.Stmt.{Stmt as Statement};
 ghost use Rattle.sal_typedefs.specs.Spots.{site_in};
+ghost use Rattle.sal_typedefs.specs.Opened.{IsOpen, IsIn};
 ghost use Rattle.sal_module_table.specs.declared.typed.Place.{Place as Spot};
+ghost use Rattle.sal_module_table.specs.Filled.{empty};
 ghost use Rattle.sal_module_table.specs.Leafrefs as leafrefs;
 ghost use Rattle.sal_module_table.specs.Typed as spec;
 
@@ -18,8 +21,8 @@ use sal_grouping::Branch;
 use sal_module::{Keyword, Modules, first_named};
 use sal_restrict::YangType;
 use sal_stmt::Stmt;
-use sal_typedefs::{Block, Leafref, Typedefs, judge_at, leafrefs_at};
-use sal_types::{NoMemory, append};
+use sal_typedefs::{Leafref, Scope, Tops, Typedefs, judge_at, leafrefs_at};
+use sal_types::{Duplicate, NoMemory, Shared, append};
 use std::alloc::Global;
 use std::collections::BTreeMap;
 
@@ -39,7 +42,7 @@ type Places = BTreeMap<Place, usize>;
 #[derive(Drop)]
 pub(crate) struct Typing<'a> {
     pub place: Place,
-    pub ty: YangType,
+    pub ty: Shared<YangType>,
     pub leafrefs: Vec<Leafref<'a>>,
 }
 
@@ -128,151 +131,184 @@ fn own_places(alloc: Global, all: &[Typing]) -> Result<Vec<Place>, NoMemory>
 /// A module whose statements are visited, and the places to keep.
 #[derive(Drop)]
 struct Keeper<'x, 'a> {
-    alloc: Global,
     typedefs: &'x Typedefs<'a>,
     wanted: &'x Places,
     number: u32,
 }
 
-/// The type of a type statement in these blocks, or the empty type if it has a fault.
+/// The type of a type statement in the open blocks, or the empty type if it has a fault.
 fn stated_type<'j, 'x, 'a>(
-    keeper: &'j Keeper<'x, 'a>,
-    around: &'j [Block<'a>],
+    scope: &'j Scope<'x, 'a>,
     stmt: Option<&'a Stmt>,
 ) -> Result<YangType, NoMemory>
-    ensures { IfOk result (λ ty. ty ≡ leafrefs.stated_type keeper.now.typedefs.now (option_map (site_in keeper.now.number around.now) (option_copied stmt.entry))) }
+    requires { IsOpen scope.now }
+    ensures { IfOk result (λ ty. ty ≡ leafrefs.stated_type scope.now.typedefs.now (option_map (site_in scope.now.number scope.now.around.items) (option_copied stmt.entry))) }
 {
     let Some(stmt) = stmt else {
         return Ok(empty_type());
     };
-    let (fault, ty) = judge_at(keeper.alloc, keeper.typedefs, keeper.number, around, stmt)?;
+    let (fault, ty) = judge_at(scope, stmt)?;
     match fault {
         None => Ok(ty),
         Some(_found) => Ok(empty_type()),
     }
 }
 
-/// The leafrefs among a type statement in these blocks and those that it depends on.
+/// The same, to be shared by nodes.
+fn shared_type<'j, 'x, 'a>(
+    alloc: Global,
+    scope: &'j Scope<'x, 'a>,
+    stmt: Option<&'a Stmt>,
+) -> Result<Shared<YangType>, NoMemory>
+    requires { IsOpen scope.now }
+    ensures { IfOk result (λ ty. ty ≡ leafrefs.stated_type scope.now.typedefs.now (option_map (site_in scope.now.number scope.now.around.items) (option_copied stmt.entry))) }
+{
+    let ty = stated_type(scope, stmt)?;
+    let shared = Shared::new(alloc, ty)?;
+    Ok(shared)
+}
+
+/// The leafrefs among a type statement in the open blocks and those that it depends on.
 fn stated_leafrefs<'j, 'x, 'a>(
-    keeper: &'j Keeper<'x, 'a>,
-    around: &'j [Block<'a>],
+    alloc: Global,
+    scope: &'j Scope<'x, 'a>,
     stmt: Option<&'a Stmt>,
 ) -> Result<Vec<Leafref<'a>>, NoMemory>
+    requires { IsOpen scope.now }
     ensures { IfOk result (λ all. map leafref_seen all.items
-        ≡ map stmt_in (leafrefs.stated_leafrefs keeper.now.typedefs.now (option_map (site_in keeper.now.number around.now) (option_copied stmt.entry)))) }
+        ≡ map stmt_in (leafrefs.stated_leafrefs scope.now.typedefs.now (option_map (site_in scope.now.number scope.now.around.items) (option_copied stmt.entry)))) }
 {
     match stmt {
-        None => Ok(Vec::new(keeper.alloc)),
-        Some(stmt) => leafrefs_at(keeper.alloc, keeper.typedefs, keeper.number, around, stmt),
+        None => Ok(Vec::new(alloc)),
+        Some(stmt) => leafrefs_at(scope, stmt),
     }
 }
 
-/// The entry for a statement, whose own block is the innermost of these.
+/// The entry for a statement, whose own block is the innermost of the open ones.
 fn own_at<'j, 'x, 'a>(
-    keeper: &'j Keeper<'x, 'a>,
-    around: &'j [Block<'a>],
+    alloc: Global,
+    scope: &'j Scope<'x, 'a>,
+    number: u32,
     stmt: &'a Stmt,
 ) -> Result<Typing<'a>, NoMemory>
-    ensures { IfOk result (λ own. spec.own_of own ≡ spec.own_with keeper.now.typedefs.now (spec.place keeper.now.number (out-Stmt stmt.now).at)
-        (option_map (site_in keeper.now.number around.now) (find (is_named word.Type) (subs_of stmt.now)))) }
+    requires { IsOpen scope.now }
+    ensures { IfOk result (λ own. spec.own_of own ≡ spec.own_with scope.now.typedefs.now (spec.place number (out-Stmt stmt.now).at)
+        (option_map (site_in scope.now.number scope.now.around.items) (find (is_named word.Type) (subs_of stmt.now)))) }
 {
     let sub = first_named(Keyword::Type, stmt.subs.items());
-    let ty = stated_type(keeper, around, sub)?;
-    let leafrefs = stated_leafrefs(keeper, around, sub)?;
+    let ty = shared_type(alloc, scope, sub)?;
+    let leafrefs = stated_leafrefs(alloc, scope, sub)?;
     Ok(Typing {
-        place: place_at(keeper.number, stmt),
+        place: place_at(number, stmt),
         ty,
         leafrefs,
     })
 }
 
-/// Adds the entry for a statement in these blocks, if it is wanted.
+/// Adds the entry for a statement, if it is wanted. Its own block is the innermost of the open ones.
 fn push_here<'j, 'x, 'a>(
     all: &mut Vec<Typing<'a>>,
-    keeper: &'j Keeper<'x, 'a>,
-    around: &mut Vec<Block<'a>>,
+    keeper: &Keeper<'x, 'a>,
+    scope: &'j Scope<'x, 'a>,
     stmt: &'a Stmt,
 ) -> Result<(), NoMemory>
-    ensures value { IfOk result (λ _. spec.owns all.new.items
-        ≡ spec.owns all.old.items ++ spec.own_here keeper.now.wanted.now keeper.now.typedefs.now (site_in keeper.now.number around.old.items stmt.now)) }
-    ensures around { IfOk result (λ _. around.new.items ≡ around.old.items) }
+    requires { IsOpen scope.now }
+    ensures { IfOk result (λ _. (around : List Statement) → IsIn keeper.now.typedefs.now keeper.now.number (around ++ stmt.now ∷ []) scope.now
+        → spec.owns all.new.items ≡ spec.owns all.old.items ++ spec.own_here keeper.now.wanted.now keeper.now.typedefs.now (site_in keeper.now.number around stmt.now)) }
 {
     if !keeper.wanted.contains_key(&place_at(keeper.number, stmt)) {
         return Ok(());
     }
-    append(around, Block::new(keeper.alloc, stmt)?)?;
-    let own = own_at(keeper, around, stmt)?;
+    let alloc = *all.allocator();
+    let own = own_at(alloc, scope, keeper.number, stmt)?;
     append(all, own)?;
-    around.pop();
     Ok(())
 }
 
 // ---- all statements
 
 /// Adds the entries for a statement and for those in `levels` levels below it, if they are wanted.
-fn push_stmt<'j, 'x, 'a>(
+fn push_stmt<'x, 'a>(
     all: &mut Vec<Typing<'a>>,
-    keeper: &'j Keeper<'x, 'a>,
-    around: &mut Vec<Block<'a>>,
+    keeper: &Keeper<'x, 'a>,
+    scope: &mut Scope<'x, 'a>,
     levels: u32,
     stmt: &'a Stmt,
 ) -> Result<(), NoMemory>
+    requires { IsIn keeper.now.typedefs.now keeper.now.number scope.old.around.items scope.old }
     ensures value { IfOk result (λ _. spec.owns all.new.items
-        ≡ spec.owns all.old.items ++ spec.owns_in keeper.now.wanted.now levels keeper.now.typedefs.now (site_in keeper.now.number around.old.items stmt.now)) }
-    ensures around { IfOk result (λ _. around.new.items ≡ around.old.items) }
+        ≡ spec.owns all.old.items ++ spec.owns_in keeper.now.wanted.now levels keeper.now.typedefs.now (site_in keeper.now.number scope.old.around.items stmt.now)) }
+    ensures around { IfOk result (λ _. IsIn keeper.now.typedefs.now keeper.now.number scope.old.around.items scope.new) }
 {
-    push_here(all, keeper, around, stmt)?;
+    scope.enter(stmt)?;
+    push_here(all, keeper, scope, stmt)?;
     if levels == 0 {
+        scope.leave();
         return Ok(());
     }
-    append(around, Block::new(keeper.alloc, stmt)?)?;
     for sub in stmt.subs.items() {
-        push_stmt(all, keeper, around, levels - 1, sub)?;
+        push_stmt(all, keeper, scope, levels - 1, sub)?;
     }
-    around.pop();
+    scope.leave();
     Ok(())
 }
 
+/// Adds the entries of a module.
+fn push_module<'x, 't, 'a>(
+    all: &mut Vec<Typing<'a>>,
+    keeper: &Keeper<'x, 'a>,
+    tops: &'x Tops<'t, 'a>,
+    stmt: &'a Stmt,
+) -> Result<(), NoMemory>
+    requires { tops.now ≡ keeper.now.typedefs.now }
+    ensures { IfOk result (λ _. spec.owns all.new.items
+        ≡ spec.owns all.old.items ++ spec.owns_in keeper.now.wanted.now 64 keeper.now.typedefs.now (site_in keeper.now.number [] stmt.now)) }
+{
+    let mut scope = tops.scope(keeper.number);
+    push_stmt(all, keeper, &mut scope, MAX_BLOCKS, stmt)
+}
+
 /// The wanted entries of all statements, in the order of the texts.
-fn typings_of<'x, 'a>(
+fn typings_of<'x, 't, 'a>(
     alloc: Global,
     modules: &'a Modules,
     typedefs: &'x Typedefs<'a>,
+    tops: &'x Tops<'t, 'a>,
     wanted: &'x Places,
 ) -> Result<Vec<Typing<'a>>, NoMemory>
-    requires { typedefs.now ≡ modules.now }
+    requires typedefs { typedefs.now ≡ modules.now }
+    requires tops { tops.now ≡ modules.now }
     ensures { IfOk result (λ all. spec.owns all.items ≡ spec.owns_of wanted.now modules.now) }
 {
     let stmts = modules.items();
     let mut all = Vec::new(alloc);
-    let mut around = Vec::new(alloc);
     for (m, stmt) in stmts.iter().enumerate() {
         let keeper = Keeper {
-            alloc,
             typedefs,
             wanted,
             number: m as u32,
         };
-        push_stmt(&mut all, &keeper, &mut around, MAX_BLOCKS, stmt)?;
+        push_module(&mut all, &keeper, tops, stmt)?;
     }
     Ok(all)
 }
 
 /// The types of these nodes' type statements, with leafrefs as paths.
 ///
-/// It takes time linear in the statements, in the nodes, and in what their type statements depend on, times the logarithm of
-/// the nodes.
-pub(crate) fn node_types<'x, 'a>(
+/// It takes time linear in the statements and the nodes, times the logarithm of the nodes, and in what types with leafrefs depend on.
+pub(crate) fn node_types<'x, 't, 'a>(
     alloc: Global,
     modules: &'a Modules,
     typedefs: &'x Typedefs<'a>,
+    tops: &'x Tops<'t, 'a>,
     forest: &[Branch],
 ) -> Result<NodeTypes<'a>, NoMemory>
-    requires { typedefs.now ≡ modules.now }
+    requires typedefs { typedefs.now ≡ modules.now }
+    requires tops { tops.now ≡ modules.now }
     ensures { IfOk result (λ types. spec.AreTyped modules.now forest.now types) }
 {
     let wanted = by_place(alloc, &node_places(alloc, forest)?)?;
-    let all = typings_of(alloc, modules, typedefs, &wanted)?;
+    let all = typings_of(alloc, modules, typedefs, tops, &wanted)?;
     let places = by_place(alloc, &own_places(alloc, &all)?)?;
     Ok(NodeTypes { all, places })
 }
@@ -296,22 +332,35 @@ fn typing_of<'t, 'a>(types: &'t NodeTypes<'a>, branch: &Branch) -> Option<&'t Ty
     }
 }
 
+/// The type without values, to be shared.
+fn shared_empty(alloc: Global) -> Result<Shared<YangType>, NoMemory>
+    ensures { IfOk result (λ ty. ty ≡ empty) }
+{
+    let ty = empty_type();
+    let shared = Shared::new(alloc, ty)?;
+    Ok(shared)
+}
+
 fn type_of_node(
     alloc: Global,
     modules: &Modules,
     types: &NodeTypes,
     branch: &Branch,
-) -> Result<YangType, NoMemory>
+) -> Result<Shared<YangType>, NoMemory>
     requires { spec.AreFirst (spec.places_of (spec.owns types.now.all.items)) types.now.places }
     ensures { IfOk result (λ ty. spec.found_for (spec.owns types.now.all.items) branch.now ≡ spec.own_of_node modules.now branch.now
         → ty ≡ leafrefs.stated_type modules.now (leafrefs.type_of modules.now branch.now)) }
 {
     if !is_typed(modules, branch) {
-        return Ok(empty_type());
+        let ty = shared_empty(alloc)?;
+        return Ok(ty);
     }
     match typing_of(types, branch) {
-        None => Ok(empty_type()),
-        Some(own) => own.ty.copy(alloc),
+        None => {
+            let ty = shared_empty(alloc)?;
+            Ok(ty)
+        }
+        Some(own) => own.ty.copy(),
     }
 }
 
@@ -362,7 +411,7 @@ pub(crate) fn own_types(
     modules: &Modules,
     types: &NodeTypes,
     forest: &[Branch],
-) -> Result<Vec<YangType>, NoMemory>
+) -> Result<Vec<Shared<YangType>>, NoMemory>
     requires { spec.AreTyped modules.now forest.now types.now }
     ensures { IfOk result (λ own. own.items ≡ leafrefs.own_types modules.now forest.now) }
 {

@@ -17,3 +17,6 @@ pub mod WholeTypes
 pub mod PositionLists
 pub mod Pigeonhole
 pub mod EnumLists
+pub mod SettledLists
+pub mod CircleLists
+pub mod OpenedLists

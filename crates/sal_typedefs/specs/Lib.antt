@@ -14,4 +14,6 @@ pub mod Types
 pub mod Whole
 pub mod Judgements
 pub mod Runs
+pub mod Settled
+pub mod Opened
 pub mod Examples

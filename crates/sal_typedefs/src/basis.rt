@@ -11,16 +11,19 @@ use crate::entry::Entry;
 use crate::judgement::{Basis, Judgement};
 use crate::layer::copies;
 use sal_restrict::YangType;
-use sal_types::{NoMemory, append};
+use sal_types::{NoMemory, Shared, append};
 use std::alloc::Global;
 
 /// The types of statements.
-pub(crate) fn types_of(alloc: Global, below: &[Judgement]) -> Result<Vec<YangType>, NoMemory>
+pub(crate) fn types_of(
+    alloc: Global,
+    below: &[Shared<Judgement>],
+) -> Result<Vec<YangType>, NoMemory>
     ensures { IfOk result (λ types. types.items ≡ map (λ (d : Kept). d.ty) below.now) }
 {
     let mut types = Vec::with_capacity(alloc, below.len())?;
     for judgement in below {
-        append(&mut types, judgement.ty.copy(alloc)?)?;
+        append(&mut types, judgement.value().ty.copy(alloc)?)?;
     }
     Ok(types)
 }
@@ -57,7 +60,7 @@ pub(crate) fn with_entries(
 }
 
 /// The first of these types, or one without values.
-fn derived_basis(alloc: Global, below: &[Judgement]) -> Result<Basis, NoMemory>
+fn derived_basis(alloc: Global, below: &[Shared<Judgement>]) -> Result<Basis, NoMemory>
     ensures value { IfOk result (λ b. spec.base_seen b ≡ spec.first_base below.now) }
     ensures numbers { spec.AllNumbers below.now → IfOk result (λ b. HasNumbers (out-YangType b.ty)) }
     ensures positions { spec.AllPositions below.now → IfOk result (λ b. HasPositions (out-YangType b.ty) b.entries.items) }
@@ -69,8 +72,9 @@ fn derived_basis(alloc: Global, below: &[Judgement]) -> Result<Basis, NoMemory>
             itself: false,
         }),
         Some(judgement) => {
-            let ty = judgement.ty.copy(alloc)?;
-            let basis = with_entries(alloc, ty, judgement.entries.as_slice(), false)?;
+            let below = judgement.value();
+            let ty = below.ty.copy(alloc)?;
+            let basis = with_entries(alloc, ty, below.entries.as_slice(), false)?;
             Ok(basis)
         }
     }
@@ -80,7 +84,7 @@ fn derived_basis(alloc: Global, below: &[Judgement]) -> Result<Basis, NoMemory>
 pub(crate) fn basis_of(
     alloc: Global,
     builtin: Option<Builtin>,
-    below: &[Judgement],
+    below: &[Shared<Judgement>],
 ) -> Result<Basis, NoMemory>
     ensures value { IfOk result (λ b. spec.base_seen b ≡ spec.base_by builtin below.now) }
     ensures numbers { spec.AllNumbers below.now → IfOk result (λ b. HasNumbers (out-YangType b.ty)) }

@@ -1,7 +1,7 @@
 //! Blocks of statements, with their typedefs by name.
 ghost use Rattle.std.specs.Prelude.{◌≡◌, ◌<◌, ℕ, List, IfOk, find};
 ghost use Rattle.std.specs.Option.{option_copied};
-ghost use Rattle.std.specs.List.{slice_get};
+ghost use Rattle.std.specs.List.{slice_get, position_from};
 ghost use Rattle.sal_module.specs.Keywords.{same};
 ghost use Rattle.sal_module.specs.Statements.{subs_of};
 ghost use Rattle.sal_typedefs.specs.Scopes.{is_typedef_of};
@@ -100,6 +100,21 @@ impl<'a> Block<'a> {
         ensures { result.now ≡ self.now }
     {
         self.stmt
+    }
+
+    /// Whether a typedef is in the block.
+    pub(crate) fn has_typedefs(&self) -> bool {
+        !self.typedefs.is_empty()
+    }
+
+    /// The index in the block of the first typedef of this name.
+    pub(crate) fn slot(&self, name: &str) -> Option<usize>
+        ensures { result ≡ position_from (is_typedef_of name.now) 0 (subs_of self.now) }
+    {
+        match self.typedefs.get(name) {
+            None => None,
+            Some(k) => Some(*k),
+        }
     }
 
     /// The first typedef of this name in the block.

@@ -47,7 +47,7 @@ fn closest_inner<'a>(list: &[Inner<'a>]) -> Option<&'a Stmt>
 }
 
 /// The closest typedef around a statement.
-fn typedef_around<'x, 'a>(spot: &Spot<'x, 'a>) -> Option<&'a Stmt>
+pub(crate) fn typedef_around<'x, 'a>(spot: &Spot<'x, 'a>) -> Option<&'a Stmt>
     ensures { option_copied result ≡ spec.typedef_around (site_of spot.now) }
 {
     match closest_inner(spot.inner.as_slice()) {

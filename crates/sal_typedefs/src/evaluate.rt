@@ -3,14 +3,18 @@ ghost use Rattle.std.specs.Prelude.{◌≡◌, ◌<◌, ◌++◌, true, false, L
 ghost use Rattle.sal_module.specs.Faults.{least};
 ghost use Rattle.sal_typedefs.specs.Names.{steps_of};
 ghost use Rattle.sal_typedefs.specs.Spots.{site_of, site_in};
+ghost use Rattle.sal_typedefs.specs.Scopes.{Site};
 ghost use Rattle.sal_typedefs.specs.Types.{Judged, judgement};
+ghost use Rattle.sal_typedefs.specs.Settled.{World, IsSettled};
+ghost use Rattle.sal_typedefs.specs.Opened.{IsOpen};
 ghost use Rattle.sal_typedefs.specs.Walks as walks;
 ghost use Rattle.sal_typedefs.specs.Judgements.{AreJudged};
 ghost use Rattle.sal_typedefs.specs.Runs as spec;
 
-use crate::block::Block;
 use crate::judgement::Judgement;
+use crate::kept::Settled;
 use crate::pattern::Look;
+use crate::scope::{MAX_BLOCKS, Scope, settle};
 use crate::site_judge::judge_next;
 use crate::spot::Spot;
 use crate::typedefs::Typedefs;
@@ -19,15 +23,15 @@ use crate::whole::whole_builtin;
 use sal_module::Found;
 use sal_restrict::YangType;
 use sal_stmt::Stmt;
-use sal_types::{NoMemory, append};
+use sal_types::{NoMemory, Shared, append};
 use std::alloc::Global;
 
 /// The last `count` results, the last one first.
 fn take_last(
     alloc: Global,
-    done: &mut Vec<Judgement>,
+    done: &mut Vec<Shared<Judgement>>,
     count: usize,
-) -> Result<Vec<Judgement>, NoMemory>
+) -> Result<Vec<Shared<Judgement>>, NoMemory>
     ensures { IfOk result (λ below. (judged : List Judged) → AreJudged (reverse done.old.items) judged
         → AreJudged below.items (take count judged) × AreJudged (reverse done.new.items) (drop count judged)) }
 {
@@ -47,7 +51,7 @@ fn judge_all(
     look: Look,
     typedefs: &Typedefs,
     nodes: &[Gone],
-) -> Result<Vec<Judgement>, NoMemory>
+) -> Result<Vec<Shared<Judgement>>, NoMemory>
     ensures { IfOk result (λ done. AreJudged (reverse done.items) (spec.run typedefs.now (map walks.node_of nodes.now))) }
 {
     let mut done = Vec::new(alloc);
@@ -108,6 +112,15 @@ fn gone<'x, 'a>(
     all_left(&mut ways, alloc, typedefs)
 }
 
+/// The fault of a judgement, and its type.
+fn parts_in(alloc: Global, judgement: &Judgement) -> Result<(Option<Found>, YangType), NoMemory>
+    ensures fault { IfOk result (λ j. j.0 ≡ judgement.now.fault) }
+    ensures meant { IfOk result (λ j. j.1 ≡ judgement.now.ty) }
+{
+    let ty = judgement.ty.copy(alloc)?;
+    Ok((judgement.fault, ty))
+}
+
 /// The least fault in a statement and in those that it depends on, without faults of names, and its type if there is none.
 /// All of them are evaluated, from the last one to the first.
 fn judge_by_way<'x, 'a>(
@@ -123,52 +136,106 @@ fn judge_by_way<'x, 'a>(
     let mut done = judge_all(alloc, look, typedefs, nodes.as_slice())?;
     match done.pop() {
         None => unreachable!(),
-        Some(judgement) => Ok((judgement.fault, judgement.ty)),
+        Some(judgement) => {
+            let found = parts_in(alloc, judgement.value())?;
+            Ok(found)
+        }
     }
 }
 
-/// The least fault in a `type` statement and in those that it depends on, without faults of names, and its type if there is none.
+/// The least fault and the type of what is settled.
+fn found_in(alloc: Global, one: &Settled) -> Result<(Option<Found>, YangType), NoMemory>
+    ensures { IfOk result (λ j. (w : World) (site : Site) → IsSettled w site one.now
+        → (j.0 ≡ least None (judgement w.modules site).faults) × (j.0 ≡ None → j.1 ≡ (judgement w.modules site).type)) }
+{
+    let found = parts_in(alloc, one.judgement.value())?;
+    Ok(found)
+}
+
+fn fault_in(one: &Settled) -> Option<Found>
+    ensures { (w : World) (site : Site) → IsSettled w site one.now → result ≡ least None (judgement w.modules site).faults }
+{
+    one.judgement.value().fault
+}
+
+/// The same of the statement at a spot of open blocks: taken over, if it is settled, and else by a search.
+fn judge_spot<'s, 'x, 'a>(
+    scope: &'s Scope<'x, 'a>,
+    spot: Spot<'s, 'a>,
+) -> Result<(Option<Found>, YangType), NoMemory>
+    requires ready { IsOpen scope.now }
+    requires outer { spot.outer.now ≡ scope.now.around.items }
+    requires number { spot.module ≡ scope.now.number }
+    ensures fault { IfOk result (λ j. j.0 ≡ least None (judgement scope.now.typedefs.now (site_of spot.entry)).faults) }
+    ensures meant { IfOk result (λ j. j.0 ≡ None → j.1 ≡ (judgement scope.now.typedefs.now (site_of spot.entry)).type) }
+{
+    match settle(scope, MAX_BLOCKS, &spot)? {
+        None => judge_by_way(scope.alloc, scope.look, scope.typedefs, spot),
+        Some(one) => {
+            let found = found_in(scope.alloc, &one)?;
+            Ok(found)
+        }
+    }
+}
+
+/// The least fault in a `type` statement of the open blocks and in those that it depends on, without faults of names, and its type if
+/// there is none.
 ///
-/// `around` are the blocks around the statement, from the module inwards. It takes time linear in the statements that it depends on,
-/// with the logarithm of a block's typedefs for each, and of the names that the type lists for each of these. For a statement that
-/// is only the name of a built-in type it takes a look-up of that name. Patterns are parsed, and not compiled.
-pub fn judge_at<'x, 'a>(
-    alloc: Global,
-    typedefs: &'x Typedefs<'a>,
-    number: u32,
-    around: &'x [Block<'a>],
+/// It takes over what is settled of the typedefs that it names, and the time of its own names and restrictions, with the logarithm of a
+/// block's typedefs for each name. A typedef that is not settled, as one of a cycle, is judged by a search through all that it depends on.
+pub fn judge_at<'s, 'x, 'a>(
+    scope: &'s Scope<'x, 'a>,
     stmt: &'a Stmt,
 ) -> Result<(Option<Found>, YangType), NoMemory>
-    ensures fault { IfOk result (λ j. j.0 ≡ least None (judgement typedefs.now (site_in number around.now stmt.now)).faults) }
-    ensures meant { IfOk result (λ j. j.0 ≡ None → j.1 ≡ (judgement typedefs.now (site_in number around.now stmt.now)).type) }
+    requires { IsOpen scope.now }
+    ensures fault { IfOk result (λ j. j.0 ≡ least None (judgement scope.now.typedefs.now (site_in scope.now.number scope.now.around.items stmt.now)).faults) }
+    ensures meant { IfOk result (λ j. j.0 ≡ None → j.1 ≡ (judgement scope.now.typedefs.now (site_in scope.now.number scope.now.around.items stmt.now)).type) }
 {
     match whole_builtin(stmt) {
         None => {
-            let spot = Spot::new(alloc, number, around, stmt);
-            judge_by_way(alloc, Look::Read, typedefs, spot)
+            let around = scope.around.as_slice();
+            let spot = Spot::new(scope.alloc, scope.number, around, stmt);
+            judge_spot(scope, spot)
         }
         Some(builtin) => {
-            let ty = builtin.bare(alloc)?;
+            let ty = builtin.bare(scope.alloc)?;
             Ok((None, ty))
         }
     }
 }
 
-/// The fault of `judge_at` alone. Patterns are compiled: one that is too large for `regex` counts as memory that ran out.
-pub fn other_fault_at<'x, 'a>(
-    alloc: Global,
-    typedefs: &'x Typedefs<'a>,
-    number: u32,
-    around: &'x [Block<'a>],
+/// The fault of `judge_spot` alone.
+fn fault_of_spot<'s, 'x, 'a>(
+    scope: &'s Scope<'x, 'a>,
+    spot: Spot<'s, 'a>,
+) -> Result<Option<Found>, NoMemory>
+    requires ready { IsOpen scope.now }
+    requires outer { spot.outer.now ≡ scope.now.around.items }
+    requires number { spot.module ≡ scope.now.number }
+    ensures { IfOk result (λ found. found ≡ least None (judgement scope.now.typedefs.now (site_of spot.entry)).faults) }
+{
+    match settle(scope, MAX_BLOCKS, &spot)? {
+        None => {
+            let (found, _ty) = judge_by_way(scope.alloc, scope.look, scope.typedefs, spot)?;
+            Ok(found)
+        }
+        Some(one) => Ok(fault_in(&one)),
+    }
+}
+
+/// The fault of `judge_at` alone.
+pub fn other_fault_at<'s, 'x, 'a>(
+    scope: &'s Scope<'x, 'a>,
     stmt: &'a Stmt,
 ) -> Result<Option<Found>, NoMemory>
-    ensures { IfOk result (λ found. found ≡ least None (judgement typedefs.now (site_in number around.now stmt.now)).faults) }
+    requires { IsOpen scope.now }
+    ensures { IfOk result (λ found. found ≡ least None (judgement scope.now.typedefs.now (site_in scope.now.number scope.now.around.items stmt.now)).faults) }
 {
     match whole_builtin(stmt) {
         None => {
-            let spot = Spot::new(alloc, number, around, stmt);
-            let (found, _ty) = judge_by_way(alloc, Look::Build, typedefs, spot)?;
-            Ok(found)
+            let around = scope.around.as_slice();
+            let spot = Spot::new(scope.alloc, scope.number, around, stmt);
+            fault_of_spot(scope, spot)
         }
         Some(_builtin) => Ok(None),
     }

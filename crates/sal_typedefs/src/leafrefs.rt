@@ -1,10 +1,11 @@
 //! Leafrefs in the type of a node (RFC 7950 section 9.9).
-ghost use Rattle.std.specs.Prelude.{◌≡◌, ◌++◌, ◌∷◌, [], IfOk, map, filter};
+ghost use Rattle.std.specs.Prelude.{◌≡◌, ◌++◌, ◌∷◌, [], true, IfOk, map, filter};
 ghost use Rattle.sal_typedefs.specs.Spots.{site_of, site_in};
 ghost use Rattle.sal_typedefs.specs.Names as names;
 ghost use Rattle.sal_typedefs.specs.Leafrefs as spec;
+ghost use Rattle.sal_typedefs.specs.Opened.{IsOpen};
 
-use crate::block::Block;
+use crate::scope::{MAX_BLOCKS, Scope, settle};
 use crate::spot::Spot;
 use crate::typedefs::Typedefs;
 use crate::walk::{next, start};
@@ -55,26 +56,51 @@ fn leafrefs_by_way<'x, 'a>(
     Ok(all)
 }
 
-/// The leafrefs among a `type` statement and those that it depends on, each statement before those that it
-/// depends on.
+/// Whether no leafref is among a type statement and those that it depends on, as far as that is settled.
+fn is_plain<'s, 'x, 'a>(scope: &'s Scope<'x, 'a>, spot: &Spot<'s, 'a>) -> Result<bool, NoMemory>
+    requires ready { IsOpen scope.now }
+    requires outer { spot.now.outer.now ≡ scope.now.around.items }
+    requires number { spot.now.module ≡ scope.now.number }
+    ensures { IfOk result (λ plain. plain ≡ true → names.leafrefs_of scope.now.typedefs.now (site_of spot.now) ≡ []) }
+{
+    match settle(scope, MAX_BLOCKS, spot)? {
+        None => Ok(false),
+        Some(one) => Ok(one.plain),
+    }
+}
+
+/// `leafrefs_at` of the statement at a spot of open blocks.
+fn leafrefs_of_spot<'s, 'x, 'a>(
+    scope: &'s Scope<'x, 'a>,
+    spot: Spot<'s, 'a>,
+) -> Result<Vec<Leafref<'a>>, NoMemory>
+    requires ready { IsOpen scope.now }
+    requires outer { spot.outer.now ≡ scope.now.around.items }
+    requires number { spot.module ≡ scope.now.number }
+    ensures { IfOk result (λ all. map spec.leafref_seen all.items ≡ map spec.stmt_in (names.leafrefs_of scope.now.typedefs.now (site_of spot.entry))) }
+{
+    if is_plain(scope, &spot)? {
+        return Ok(Vec::new(scope.alloc));
+    }
+    leafrefs_by_way(scope.alloc, scope.typedefs, spot)
+}
+
+/// The leafrefs among a `type` statement of the open blocks and those that it depends on, each statement before those that it depends on.
 ///
-/// `around` are the blocks around the statement, from the module inwards. It takes time linear in the statements that it depends
-/// on, with the logarithm of a block's typedefs for each. A statement that is only the name of a built-in type takes a look-up
-/// of that name.
-pub fn leafrefs_at<'x, 'a>(
-    alloc: Global,
-    typedefs: &'x Typedefs<'a>,
-    number: u32,
-    around: &'x [Block<'a>],
+/// It takes the time of `judge_at` if there is none, and else time linear in the statements that it depends on.
+pub fn leafrefs_at<'s, 'x, 'a>(
+    scope: &'s Scope<'x, 'a>,
     stmt: &'a Stmt,
 ) -> Result<Vec<Leafref<'a>>, NoMemory>
-    ensures { IfOk result (λ all. map spec.leafref_seen all.items ≡ map spec.stmt_in (names.leafrefs_of typedefs.now (site_in number around.now stmt.now))) }
+    requires { IsOpen scope.now }
+    ensures { IfOk result (λ all. map spec.leafref_seen all.items ≡ map spec.stmt_in (names.leafrefs_of scope.now.typedefs.now (site_in scope.now.number scope.now.around.items stmt.now))) }
 {
     match whole_builtin(stmt) {
         None => {
-            let spot = Spot::new(alloc, number, around, stmt);
-            leafrefs_by_way(alloc, typedefs, spot)
+            let around = scope.around.as_slice();
+            let spot = Spot::new(scope.alloc, scope.number, around, stmt);
+            leafrefs_of_spot(scope, spot)
         }
-        Some(_builtin) => Ok(Vec::new(alloc)),
+        Some(_builtin) => Ok(Vec::new(scope.alloc)),
     }
 }

@@ -7,6 +7,7 @@ ghost use Rattle.sal_typedefs.specs.Judgements as spec;
 
 use crate::judgement::Judgement;
 use sal_module::{Found, better};
+use sal_types::Shared;
 
 /// The first of two faults: of equals the one given first.
 fn merged(best: Option<Found>, more: Option<Found>) -> Option<Found>
@@ -19,13 +20,13 @@ fn merged(best: Option<Found>, more: Option<Found>) -> Option<Found>
 }
 
 /// The least fault in the statements below.
-pub(crate) fn fault_below(below: &[Judgement]) -> Option<Found>
+pub(crate) fn fault_below(below: &[Shared<Judgement>]) -> Option<Found>
     ensures least { (judged : List Judged) → spec.AreJudged below.now judged → result ≡ least None (flat_map (λ (j : Judged). j.faults) judged) }
     ensures some { (judged : List Judged) → spec.AreJudged below.now judged → is_some result ≡ list_any is_bad judged }
 {
     let mut best = None;
     for judgement in below {
-        best = merged(best, judgement.fault);
+        best = merged(best, judgement.value().fault);
     }
     best
 }

@@ -1,18 +1,22 @@
 //! Faults of the names in one type statement (RFC 7950 sections 5.5, 7.3 and 9.9.2).
-ghost use Rattle.std.specs.Prelude.{◌≡◌, None, is_none, IfOk};
+ghost use Rattle.std.specs.Prelude.{◌≡◌, ◌≤◌, None, true, false, is_none, IfOk};
 ghost use Rattle.std.specs.List.{flat_map, list_any};
 ghost use Rattle.sal_module.specs.Faults.{least};
-ghost use Rattle.sal_module.specs.Statements.{subs_of};
+ghost use Rattle.sal_module.specs.Statements.{argument_of as argument, subs_of};
+ghost use Rattle.sal_typedefs.specs.Builtins.{builtin_of as builtin};
+ghost use Rattle.sal_typedefs.specs.Opened.{IsOpen};
 ghost use Rattle.sal_typedefs.specs.Spots.{site_of, site_in};
 ghost use Rattle.sal_typedefs.specs.Scopes.{module_of};
 ghost use Rattle.sal_typedefs.specs.Names as spec;
 
 use crate::below::target;
-use crate::block::Block;
 use crate::builtin::builtin_of;
-use crate::circle::goes_in_circle;
+use crate::circle::{goes_in_circle, typedef_around};
 use crate::entries::with_fault;
+use crate::kept::Settled;
 use crate::path::path_names;
+use crate::ranks::rank_in;
+use crate::scope::{Scope, named};
 use crate::spot::Spot;
 use crate::typedefs::Typedefs;
 use crate::whole::lone_builtin;
@@ -36,8 +40,49 @@ fn with_unknown<'x, 'a>(
     Ok(with_fault(best, bad, Cause::UnknownName, spot.module, spot.stmt))
 }
 
+/// Whether it is known that the typedef around a statement depends on itself through the name in it not: the typedef that it names has a
+/// lower rank, and so have those on which that depends.
+fn is_below<'s, 'x, 'a>(scope: &'s Scope<'x, 'a>, spot: &Spot<'s, 'a>) -> bool
+    requires ready { IsOpen scope.now }
+    requires outer { spot.now.outer.now ≡ scope.now.around.items }
+    requires number { spot.now.module ≡ scope.now.number }
+    requires other { builtin (argument spot.now.stmt.now) ≡ None }
+    ensures { result ≡ true → spec.goes_in_circle (spec.steps_of scope.now.typedefs.now) scope.now.typedefs.now (site_of spot.now) ≡ false }
+{
+    let Some(typedef) = typedef_around(spot) else {
+        return false;
+    };
+    match named(scope, spot) {
+        None => false,
+        Some(one) => is_lower(one, rank_in(scope.ranks, spot.module, typedef.at)),
+    }
+}
+
+fn is_lower(one: &Settled, rank: usize) -> bool
+    ensures { result ≡ true → (one.now.rank ≤ rank) × (one.now.above ≤ rank) }
+{
+    one.rank <= rank && one.above <= rank
+}
+
 /// The first of this fault and that of a name through which the typedef around it depends on itself.
-fn with_circle<'x, 'a>(
+fn with_circle<'s, 'x, 'a>(
+    best: Option<Found>,
+    scope: &'s Scope<'x, 'a>,
+    spot: &Spot<'s, 'a>,
+) -> Result<Option<Found>, NoMemory>
+    requires ready { IsOpen scope.now }
+    requires outer { spot.now.outer.now ≡ scope.now.around.items }
+    requires number { spot.now.module ≡ scope.now.number }
+    ensures { IfOk result (λ it. it ≡ least best (spec.cycle_faults (spec.steps_of scope.now.typedefs.now) scope.now.typedefs.now (site_of spot.now))) }
+{
+    if builtin_of(argument_of(spot.stmt)).is_some() || is_below(scope, spot) {
+        return Ok(best);
+    }
+    with_search(best, scope.alloc, scope.typedefs, spot)
+}
+
+/// The same by a search.
+fn with_search<'x, 'a>(
     best: Option<Found>,
     alloc: Global,
     typedefs: &'x Typedefs<'a>,
@@ -118,41 +163,40 @@ fn with_path<'x, 'a>(
 }
 
 /// The first of this fault and those of the names in one type statement.
-pub(crate) fn with_names<'x, 'a>(
+fn with_names<'s, 'x, 'a>(
     best: Option<Found>,
-    alloc: Global,
-    typedefs: &'x Typedefs<'a>,
-    spot: &Spot<'x, 'a>,
+    scope: &'s Scope<'x, 'a>,
+    spot: &Spot<'s, 'a>,
 ) -> Result<Option<Found>, NoMemory>
-    ensures { IfOk result (λ it. it ≡ least best (spec.name_faults (spec.steps_of typedefs.now) typedefs.now (site_of spot.now))) }
+    requires ready { IsOpen scope.now }
+    requires outer { spot.now.outer.now ≡ scope.now.around.items }
+    requires number { spot.now.module ≡ scope.now.number }
+    ensures { IfOk result (λ it. it ≡ least best (spec.name_faults (spec.steps_of scope.now.typedefs.now) scope.now.typedefs.now (site_of spot.now))) }
 {
-    let best = with_unknown(best, alloc, typedefs, spot)?;
-    let best = with_circle(best, alloc, typedefs, spot)?;
-    let best = with_bases(best, typedefs, spot);
-    let best = with_path(best, alloc, typedefs, spot)?;
+    let best = with_unknown(best, scope.alloc, scope.typedefs, spot)?;
+    let best = with_circle(best, scope, spot)?;
+    let best = with_bases(best, scope.typedefs, spot);
+    let best = with_path(best, scope.alloc, scope.typedefs, spot)?;
     Ok(best)
 }
 
-/// The least fault of the names in one `type` statement: an unknown typedef, base or prefix of a path
+/// The least fault of the names in one `type` statement of the open blocks: an unknown typedef, base or prefix of a path
 /// (`UnknownName`), or a typedef that depends on itself through this name (`NameCycle`).
 ///
-/// `around` are the blocks around the statement, from the module inwards. It takes time linear in the statements that the type
-/// depends on, each as often as it is used, with the logarithm of a block's typedefs for each. If that leads into a cycle of
-/// other typedefs, the search follows it for as many steps as there are statements. A statement that is only the name of a
-/// built-in type takes a look-up of that name.
-pub fn name_fault_at<'x, 'a>(
-    alloc: Global,
-    typedefs: &'x Typedefs<'a>,
-    number: u32,
-    around: &'x [Block<'a>],
+/// It takes the logarithm of a block's typedefs, unless the typedef that it names is not settled. If that leads into a cycle of other
+/// typedefs, a search follows it for as many steps as there are statements.
+pub fn name_fault_at<'s, 'x, 'a>(
+    scope: &'s Scope<'x, 'a>,
     stmt: &'a Stmt,
 ) -> Result<Option<Found>, NoMemory>
-    ensures { IfOk result (λ found. found ≡ least None (spec.name_faults (spec.steps_of typedefs.now) typedefs.now (site_in number around.now stmt.now))) }
+    requires { IsOpen scope.now }
+    ensures { IfOk result (λ found. found ≡ least None (spec.name_faults (spec.steps_of scope.now.typedefs.now) scope.now.typedefs.now (site_in scope.now.number scope.now.around.items stmt.now))) }
 {
     match lone_builtin(stmt) {
         None => {
-            let spot = Spot::new(alloc, number, around, stmt);
-            with_names(None, alloc, typedefs, &spot)
+            let around = scope.around.as_slice();
+            let spot = Spot::new(scope.alloc, scope.number, around, stmt);
+            with_names(None, scope, &spot)
         }
         Some(_builtin) => Ok(None),
     }

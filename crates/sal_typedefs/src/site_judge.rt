@@ -24,7 +24,7 @@ use crate::spot::Spot;
 use crate::typedefs::Typedefs;
 use sal_module::{Found, argument_of};
 use sal_stmt::Stmt;
-use sal_types::NoMemory;
+use sal_types::{NoMemory, Shared};
 use std::alloc::Global;
 
 /// Whether there are entries for each name of the type.
@@ -43,13 +43,13 @@ fn is_alone(stmt: &Stmt) -> bool
 }
 
 /// Whether a statement is only the name of a typedef, and the only result below is that of the typedef's type.
-fn is_only_name(stmt: &Stmt, below: &[Judgement]) -> bool
+fn is_only_name(stmt: &Stmt, below: &[Shared<Judgement>]) -> bool
     ensures { result ≡ true → spec.IsOnlyName stmt.now below.now }
 {
     if below.len() != 1 || !is_alone(stmt) {
         return false;
     }
-    is_listed(&below[0])
+    is_listed(below[0].value())
 }
 
 /// The result of a statement that restricts this type, with these results of the statements below.
@@ -59,7 +59,7 @@ fn judge_over(
     typedefs: &Typedefs,
     spot: &Spot,
     basis: &Basis,
-    below: &[Judgement],
+    below: &[Shared<Judgement>],
 ) -> Result<Judgement, NoMemory>
     requires numbers { HasNumbers (out-YangType basis.now.ty) }
     requires positions { HasPositions (out-YangType basis.now.ty) basis.now.entries.items }
@@ -86,7 +86,7 @@ pub(crate) fn judge_one(
     look: Look,
     typedefs: &Typedefs,
     spot: &Spot,
-    below: &[Judgement],
+    below: &[Shared<Judgement>],
 ) -> Result<Judgement, NoMemory>
     requires numbers { spec.AllNumbers below.now }
     requires positions { spec.AllPositions below.now }
@@ -105,21 +105,23 @@ pub(crate) fn judge_one(
 }
 
 /// The result of a statement, with these results of the statements below. If it is only the name of a typedef, that of the
-/// typedef's type is moved.
+/// typedef's type is taken over, and shared.
 pub(crate) fn judge_next(
     alloc: Global,
     look: Look,
     typedefs: &Typedefs,
     spot: &Spot,
-    below: Vec<Judgement>,
-) -> Result<Judgement, NoMemory>
+    below: Vec<Shared<Judgement>>,
+) -> Result<Shared<Judgement>, NoMemory>
     requires numbers { spec.AllNumbers below.items }
     requires positions { spec.AllPositions below.items }
     ensures { IfOk result (λ d. (judged : List Judged) → spec.AreJudged below.items judged
         → spec.IsJudged d (types_spec.judged typedefs.now (site_of spot.now) (types_spec.base_of (site_of spot.now) judged) judged)) }
 {
     if !is_only_name(spot.stmt, below.as_slice()) {
-        return judge_one(alloc, look, typedefs, spot, below.as_slice());
+        let judgement = judge_one(alloc, look, typedefs, spot, below.as_slice())?;
+        let shared = Shared::new(alloc, judgement)?;
+        return Ok(shared);
     }
     let mut below = below;
     match below.pop() {

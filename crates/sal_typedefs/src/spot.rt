@@ -108,7 +108,11 @@ fn closest_outer<'a>(number: u32, blocks: &[Block<'a>], name: &str) -> Option<(u
 }
 
 /// The same for inner blocks.
-fn closest_inner<'a>(number: u32, list: &[Inner<'a>], name: &str) -> Option<(usize, &'a Stmt)>
+pub(crate) fn closest_inner<'a>(
+    number: u32,
+    list: &[Inner<'a>],
+    name: &str,
+) -> Option<(usize, &'a Stmt)>
     ensures value { option_map (spec.seen_in number list.now) result ≡ scopes.closest number name.now (reverse list.now) }
     ensures within { IfSome result (λ found. found.0 ≤ length list.now) }
 {
@@ -164,7 +168,9 @@ impl<'x, 'a> Spot<'x, 'a> {
         around: &'x [Block<'a>],
         stmt: &'a Stmt,
     ) -> Spot<'x, 'a>
-        ensures { spec.site_of result ≡ spec.site_in number around.now stmt.now }
+        ensures value { spec.site_of result ≡ spec.site_in number around.now stmt.now }
+        ensures outer { result.outer.now ≡ around.now }
+        ensures number { result.module ≡ number }
     {
         Spot {
             module: number,
@@ -213,7 +219,9 @@ impl<'x, 'a> Spot<'x, 'a> {
         sub: &'a Stmt,
     ) -> Result<Spot<'x, 'a>, NoMemory>
         requires { block.now ≡ self.now.stmt.now }
-        ensures { IfOk result (λ spot. spec.site_of spot ≡ scopes.within (spec.site_of self.now) sub.now) }
+        ensures value { IfOk result (λ spot. spec.site_of spot ≡ scopes.within (spec.site_of self.now) sub.now) }
+        ensures outer { IfOk result (λ spot. spot.outer.now ≡ self.now.outer.now) }
+        ensures number { IfOk result (λ spot. spot.module ≡ self.now.module) }
     {
         let mut inner = copies(alloc, self.inner.as_slice())?;
         append(&mut inner, block.copy())?;

@@ -105,6 +105,18 @@ impl<'a> Typedefs<'a> {
         module_of(self.modules, number, name)
     }
 
+    /// The module that a prefix names in a module.
+    pub(crate) fn imported(&self, number: u32, prefix: &str) -> Option<u32> {
+        self.modules.imported(number, prefix)
+    }
+
+    /// The statements of the modules.
+    pub(crate) fn stmts(&self) -> &'a [Stmt]
+        ensures { result.now ≡ self.now }
+    {
+        self.modules.items()
+    }
+
     /// The block of a module.
     pub(crate) fn top(&self, number: u32) -> Option<&[Block<'a>]>
         ensures { option_map (λ (blocks : Bor (List Statement)). blocks.now) result ≡ option_map (λ stmt. stmt ∷ []) (slice_get self.now number) }

@@ -18,4 +18,4 @@ returns t c =
     let some : 0 < a.steps = omega (arith, c.if-steps-eq0.false) in
     let whole : take c.loop-target.target-index targets ≡ targets = take_all c.loop-target.target-index targets c.loop-target-test.false in
     let types = c.deref.ensures.value ∙ c.loop-target.invariant ∙ ap (map (node_type a.own.now edges (a.steps - 1))) (whole ∙ c.out_of-target-items.ensures) in
-    c.in_ok-t.ensures ∙ ap (λ s. filled s c.deref.result.now) c.in_ok-stated.ensures ∙ ap (filled (type_at a.own.now a.k)) types ∙ sym (type-some a.own.now edges a.steps a.k some)
+    c.in_ok-t.ensures ∙ ap (filled (type_at a.own.now a.k)) types ∙ sym (type-some a.own.now edges a.steps a.k some)

@@ -7,15 +7,15 @@ use Rattle.sal_module_table.proofs.typed.stated_type.Goals as goal
 
 pub returns-in-None : goal.returns-in-None
 returns-in-None c =
-    let a = c.args in
+    let scope = c.args.scope.now in
     let fault = c.in_ok-fault.ensures.fault in
     let is = c.in-None.is in
-    type-good a.keeper.now.typedefs.now (site_in a.keeper.now.number a.around.now c.in-Some.stmt.now) c.in_ok-fault.fault c.in_ok-fault.ty fault is (c.in_ok-fault.ensures.meant is)
-    ∙ ap (λ s. stated_type a.keeper.now.typedefs.now (option_map (site_in a.keeper.now.number a.around.now) (option_copied s))) (sym c.in-Some.is)
+    type-good scope.typedefs.now (site_in scope.number scope.around.items c.in-Some.stmt.now) c.in_ok-fault.fault c.in_ok-fault.ty fault is (c.in_ok-fault.ensures.meant is)
+    ∙ ap (λ s. stated_type scope.typedefs.now (option_map (site_in scope.number scope.around.items) (option_copied s))) (sym c.in-Some.is)
 
 pub returns-in-Some-fault : goal.returns-in-Some-fault
 returns-in-Some-fault c =
-    let a = c.args in
+    let scope = c.args.scope.now in
     c.empty_type-in-Some-fault.ensures
-    ∙ type-bad a.keeper.now.typedefs.now (site_in a.keeper.now.number a.around.now c.in-Some.stmt.now) c.in_ok-fault.fault c.in-Some-fault._found c.in_ok-fault.ensures.fault c.in-Some-fault.is
-    ∙ ap (λ s. stated_type a.keeper.now.typedefs.now (option_map (site_in a.keeper.now.number a.around.now) (option_copied s))) (sym c.in-Some.is)
+    ∙ type-bad scope.typedefs.now (site_in scope.number scope.around.items c.in-Some.stmt.now) c.in_ok-fault.fault c.in-Some-fault._found c.in_ok-fault.ensures.fault c.in-Some-fault.is
+    ∙ ap (λ s. stated_type scope.typedefs.now (option_map (site_in scope.number scope.around.items) (option_copied s))) (sym c.in-Some.is)

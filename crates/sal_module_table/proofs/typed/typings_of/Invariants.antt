@@ -6,4 +6,4 @@ use Rattle.sal_module_table.specs.Typed.{owns, owns_in}
 use Rattle.sal_module_table.proofs.typed.typings_of.Given as goal
 
 abbrev pub invariant-loop-m : goal.invariant-loop-m
-invariant-loop-m l = (l.around.items ≡ []) × (owns l.all.items ≡ numbered (λ m stmt. owns_in l.wanted 64 l.modules (site_in m [] stmt)) 0 (take l.m l.modules))
+invariant-loop-m l = owns l.all.items ≡ numbered (λ m stmt. owns_in l.wanted 64 l.modules (site_in m [] stmt)) 0 (take l.m l.modules)

@@ -3,6 +3,7 @@ use Rattle.std.proofs.Common.{◌≡◌, ◌-◌, take}
 use Rattle.std.specs.List.{flat_map}
 use Rattle.sal_module.specs.Faults.{least}
 use Rattle.sal_module.specs.Statements.{subs_of}
+use Rattle.sal_typedefs.specs.Opened.{IsIn}
 use Rattle.sal_typedefs.specs.Spots.{site_in}
 use Rattle.sal_module_table.specs.Types.{faults_in}
 use Rattle.sal_module_table.proofs.types.+with_stmt.Given as goal
@@ -12,5 +13,6 @@ decreases-with_stmt l = l.levels
 
 abbrev pub invariant-loop-sub : goal.invariant-loop-sub
 invariant-loop-sub l =
-    (l.around.items ≡ l.initial.around.items)
-    × (l.best ≡ least l.initial.best (flat_map (λ sub. faults_in l.judge.asked (l.levels - 1) l.judge.typedefs.now (site_in l.judge.number l.initial.around.items sub)) (take l.sub-index (subs_of l.stmt))))
+    IsIn l.judge.typedefs.now l.judge.number l.initial.scope.around.items l.scope
+    × (l.best
+    ≡ least l.initial.best (flat_map (λ sub. faults_in l.judge.asked (l.levels - 1) l.judge.typedefs.now (site_in l.judge.number l.initial.scope.around.items sub)) (take l.sub-index (subs_of l.stmt))))

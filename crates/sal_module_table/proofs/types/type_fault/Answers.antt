@@ -1,4 +1,4 @@
-use Rattle.std.proofs.Common.{rules, ◌≡◌, ◌∙◌, ◌<◌, ℕ, [], None, List, length, take, get_or, ap, arith}
+use Rattle.std.proofs.Common.{rules, ◌≡◌, ◌∙◌, ◌<◌, ℕ, [], None, List, length, take, get_or, ap, sym, arith}
 use Rattle.std.proofs.lemmas.Grind.{common_steps}
 use Rattle.sal_stmt.specs.declared.stmt.Stmt.{Stmt}
 use Rattle.sal_module.specs.declared.fault.Found.{Found}
@@ -9,6 +9,9 @@ use Rattle.sal_module_table.specs.Types.{faults_in}
 use Rattle.sal_module_table.proofs.Walked.{modules-faults}
 use Rattle.sal_module_table.proofs.types.type_fault.Goals as goal
 
+pub with_module-requires : goal.with_module-requires
+with_module-requires c = c.requires.tops ∙ sym c.requires.typedefs
+
 pub loop-m-preserved : goal.loop-m-preserved
 loop-m-preserved c =
     let a = c.args in
@@ -18,10 +21,8 @@ loop-m-preserved c =
     let f : ℕ → Stmt → List Found = λ k s. faults_in a.asked 64 stmts (site_in k [] s) in
     let inside : m < length stmts = omega (arith, ap length c.items-stmts.ensures.value, c.loop-m-test.true) in
     let is : stmt ≡ get_or stmts m stmt = search rules in
-    let step = rw c.requires at c.in_ok-best.ensures.value in (
-      c.in_ok-best.ensures.around ∙ c.loop-m.invariant.0,
-      least_more f stmts m stmt None c.loop-m.best c.in_ok-best.best inside is c.loop-m.invariant.1 (step ∙ ap (λ bs. least c.loop-m.best (faults_in a.asked 64 stmts (site_in m bs stmt))) c.loop-m.invariant.0),
-    )
+    let step = rw c.requires.typedefs at c.in_ok-best.ensures in
+    least_more f stmts m stmt None c.loop-m.best c.in_ok-best.best inside is c.loop-m.invariant step
 
 pub returns : goal.returns
 returns c =
@@ -29,5 +30,5 @@ returns c =
     let stmts = a.modules.now in
     let count = ap length c.items-stmts.ensures.value in
     let whole : take c.loop-m.m stmts ≡ stmts = grind (arith, common_steps) in
-    let all = rw whole at c.loop-m.invariant.1 in
+    let all = rw whole at c.loop-m.invariant in
     all ∙ ap (least None) (modules-faults a.asked stmts)

@@ -10,6 +10,7 @@ use Rattle.sal_module_table.proofs.types.with_here.Goals as goal
 pub returns : goal.returns
 returns c =
     let a = c.args in
-    let site = site_in a.judge.now.number a.around.now a.stmt.now in
-    c.merge.ensures ∙ ap (merged a.best) c.in_ok-found.ensures ∙ merge-least a.best (faults_at a.judge.now.asked a.judge.now.typedefs.now site)
-    ∙ ap (least a.best) (here-type a.judge.now.asked a.judge.now.typedefs.now site (sym c.is_named.ensures ∙ c.if-not-is_named.false))
+    let scope = a.scope.now in
+    let site = site_in scope.number scope.around.items a.stmt.now in
+    c.merge.ensures ∙ ap (merged a.best) c.in_ok-found.ensures ∙ merge-least a.best (faults_at a.asked scope.typedefs.now site)
+    ∙ ap (least a.best) (here-type a.asked scope.typedefs.now site (sym c.is_named.ensures ∙ c.if-not-is_named.false))

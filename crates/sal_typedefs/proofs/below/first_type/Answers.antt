@@ -17,4 +17,4 @@ returns-in_ok-append-in-Some c =
     let stmt = c.args.spot.now.stmt.now in
     let some = rw c.items.ensures at c.in-Some.ensures in
     let items = c.in_ok-append-in-Some.ensures ∙ ap (λ l. l ++ c.in_ok-within-in-Some.field-0 ∷ []) c.new-all.ensures.items in
-    ap (map site_of) items ∙ ap (λ s. s ∷ []) c.in_ok-within-in-Some.ensures ∙ first-some (within (site_of c.args.spot.now)) (is_named word.Type) (subs_of stmt) c.in-Some.sub.now some
+    ap (map site_of) items ∙ ap (λ s. s ∷ []) c.in_ok-within-in-Some.ensures.value ∙ first-some (within (site_of c.args.spot.now)) (is_named word.Type) (subs_of stmt) c.in-Some.sub.now some

@@ -1,4 +1,5 @@
-use Rattle.std.proofs.Common.{◌≡◌, List, [], reverse, rules, subst}
+use Rattle.std.proofs.Common.{◌≡◌, ◌∙◌, List, [], reverse, rules, sym, ap, subst}
+use Rattle.sal_typedefs.specs.declared.judgement.Judgement.{Judgement}
 use Rattle.sal_typedefs.specs.Names.{steps_of}
 use Rattle.sal_typedefs.specs.Spots.{site_of}
 use Rattle.sal_typedefs.specs.Walks.{Node}
@@ -13,7 +14,11 @@ returns c =
     let P : List Node → Type 0 = λ n. AreJudged (reverse c.in_ok-done.done.items) (run modules n) in
     let way = rw c.as_slice.ensures.value at c.in_ok-done.ensures in
     let is = top-judged (steps_of modules) modules (site_of c.args.spot) c.pop.new.self.items c.in-Some.judgement c.in_ok-done.done.items c.in-Some.ensures.items (subst P c.in_ok-nodes.ensures way) in
-    record { fault = is.fault; meant = is.type }
+    let fault = c.in_ok-found-in-Some.ensures.fault ∙ ap (λ (j : Judgement). j.fault) c.value.ensures in
+    record {
+      fault = fault ∙ is.fault;
+      meant = λ none. c.in_ok-found-in-Some.ensures.meant ∙ ap (λ (j : Judgement). j.ty) c.value.ensures ∙ is.type (sym fault ∙ none);
+    }
 
 pub unreachable-requires : goal.unreachable-requires
 unreachable-requires c =

@@ -3,13 +3,15 @@ use Rattle.std.proofs.lemmas.Grind.{common_steps}
 use Rattle.std.proofs.lemmas.List.{take_all}
 use Rattle.std.specs.Prelude.{is_some}
 use Rattle.sal_module.specs.Faults.{least}
+use Rattle.sal_typedefs.specs.declared.judgement.Judgement.{Judgement}
+use Rattle.sal_typedefs.specs.Judgements.{merged}
 use Rattle.sal_typedefs.proofs.LeastLists.{all_faults, fault-more, as-many, any-faulty}
 use Rattle.sal_typedefs.proofs.merging.fault_below.Goals as goal
 
 pub loop-judgement-preserved : goal.loop-judgement-preserved
 loop-judgement-preserved c =
     fault-more c.args.below.now c.loop-judgement.judgement-index c.judgement-item.result c.loop-judgement.best c.merged-best.result c.loop-judgement-test.true c.judgement-item.is
-    c.loop-judgement.invariant c.merged-best.ensures
+    c.loop-judgement.invariant (c.merged-best.ensures ∙ ap (λ (d : Judgement). merged c.loop-judgement.best d.fault) c.value.ensures)
 
 pub returns-clause-least : goal.returns-clause-least
 returns-clause-least c judged are =

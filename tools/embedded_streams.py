@@ -180,7 +180,7 @@ def held(path):
         length = int(data[at : at + 8])
         frame = json.loads(data[at + 9 : at + 9 + length])
         same("the number of a frame", frame["commit"], frame["commit"] if number is None else number + 1)
-        rows.update((json.dumps(way), cell) for way, cell in frame["config"])
+        rows.update((json.dumps(way), cell) for way, cell in frame["config"] + frame["operational"])
         number, at = frame["commit"], at + length + 10
     return number, {way: cell for way, cell in rows.items() if cell is not None}
 
@@ -193,6 +193,15 @@ def counted(rows, number):
     same(f"the rows after {number} commits", rows, wanted)
 
 
+def both_held(path):
+    """Checks the files of both domains, and returns the numbers of their last frames: the device has counted its commits in its node 0."""
+    number, rows = held(path)
+    counted(rows, number)
+    device, rows = held(f"{path}.1")
+    same(f"the device's rows after {device} commits", rows, {"[0]": device} if device else {})
+    return number, device
+
+
 def killed(words, path, lines, env):
     """Runs the program until it has printed this many lines, kills it, and returns them. What it said was written is in the file."""
     process = subprocess.Popen(words, stdout=subprocess.PIPE, text=True, env=env)
@@ -200,32 +209,30 @@ def killed(words, path, lines, env):
     process.kill()
     told += process.stdout.readlines()
     process.wait()
-    number, rows = held(path)
-    written = max([int(it.split()[1]) for it in told if re.match(r"written \d+\n", it)], default=0)
-    if number < written:
-        raise Differs(f"{written} commits were written, and the file has {number}")
-    counted(rows, number)
-    return told, number
+    numbers = both_held(path)
+    written = max([tuple(map(int, it.split()[1:])) for it in told if re.match(r"written \d+ \d+\n", it)], default=(0, 0))
+    if any(number < it for number, it in zip(numbers, written)):
+        raise Differs(f"{written} commits were written, and the files have {numbers}")
+    return told, numbers
 
 
 def goes_on(language, words, path, env=None, is_wrong=False):
     """Kills the program again and again: each time it goes on with the last frame of its file."""
-    last, ends = 0, []
+    last, ends = (0, 0), []
     for lines in (1, 7, 2, 23, 1, 40):
-        told, number = killed(words, path, lines, env)
-        same("the first line", told[0], f"begins at {last + is_wrong}\n")
-        last = number
-        ends.append(number)
+        told, numbers = killed(words, path, lines, env)
+        same("the first line", told[0], f"begins at {last[0] + is_wrong} {last[1]}\n")
+        last = numbers
+        ends.append(numbers[0])
     told = ran(words, env=env).splitlines()
-    same("the first line", told[0], f"begins at {last}")
-    number, rows = held(path)
-    counted(rows, number)
-    if not told[-1].startswith(f"total {number} at {number}, ") or 3 * number < CALLS:
-        raise Differs(f"it ends with {told[-1]!r}, and the file has {number} commits")
+    same("the first line", told[0], f"begins at {last[0]} {last[1]}")
+    number, device = both_held(path)
+    if not told[-1].startswith(f"total {number} {device} at {number} {device}, ") or 3 * number < CALLS or 200 * device < number:
+        raise Differs(f"it ends with {told[-1]!r}, and the files have {number} and {device} commits")
     memory = [int(it.split()[3]) for it in told if it.startswith("epoch ")]
     if max(memory) > 1.2 * memory[0]:
         raise Differs(f"the memory grows with the epochs: {memory} KB")
-    return f"{language}: killed at {', '.join(map(str, ends))}, it went on to {number} commits in {len(memory)} epochs, in {max(memory) // 1024} MB"
+    return f"{language}: killed at {', '.join(map(str, ends))}, it went on to {number} commits and {device} of a device in {len(memory)} epochs, in {max(memory) // 1024} MB"
 
 
 def epochs_in_c(folder, room, is_wrong=False):

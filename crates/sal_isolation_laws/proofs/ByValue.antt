@@ -1,5 +1,5 @@
 -- Under version rules 2 merges conflict by values alone.
-use Rattle.std.proofs.Common.{◌≡◌, ℕ, zero, suc, ◌+◌, Bool, true, false, List, [], ◌∷◌, ◌&&◌, length, take, Option, None, Some, refl, ap, sym, ◌∙◌, cond, if◌then◌else◌}
+use Rattle.std.proofs.Common.{◌≡◌, ℕ, ◌+◌, Bool, true, false, List, [], ◌∷◌, ◌&&◌, take, Option, None, Some, refl, ap, sym, ◌∙◌, cond, if◌then◌else◌}
 use Rattle.std.specs.Prelude.{is_some, not}
 use Rattle.std.specs.List.{position_from}
 use Rattle.std.specs.Option.{option_map}

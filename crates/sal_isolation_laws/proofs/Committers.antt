@@ -1,6 +1,6 @@
 -- Of two concurrent transactions that were done, the later one puts or deletes no path at or below which the earlier one left a change.
 use Rattle.std.proofs.Common.{◌≡◌, inl, inr, ℕ, zero, suc, ◌+◌, ◌-◌, ◌<◌, ◌≤◌, Bool, true, false, List, [], ◌∷◌, ◌++◌, ◌&&◌, ◌||◌, length, take, Option, None, Some, refl, ap, sym, ◌∙◌, subst, arith, append-nil, if◌then◌else◌}
-use Rattle.std.specs.Prelude.{find, map, not, slice_get, unwrap_or}
+use Rattle.std.specs.Prelude.{find, not, slice_get, unwrap_or}
 use Rattle.std.specs.Option.{option_map, option_or}
 use Rattle.std.proofs.lemmas.Bool.{and_parts}
 use Rattle.std.proofs.lemmas.List.{length-map, map-append, take_all, take-append-le}
@@ -12,7 +12,6 @@ use Rattle.sal_types.specs.declared.row.Row.{Row}
 use Rattle.sal_types.specs.Prefix.{is_prefix}
 use Rattle.sal_types.specs.Tree.{has}
 use Rattle.sal_types.proofs.Prefixes.{is_prefix-append}
-use Rattle.sal_rows.specs.declared.clash.Clash.{Clash}
 use Rattle.sal_rows.specs.declared.clash.Rules.{Rules}
 use Rattle.sal_rows.specs.declared.clash.Span.{Span}
 use Rattle.sal_rows.specs.declared.op.Op.{Op}
@@ -23,14 +22,14 @@ use Rattle.sal_rows.specs.Clash.{clash, clash_from, leaf_clash, op_clash, parent
 use Rattle.sal_rows.specs.Commits.{commit_touches, is_unchanged, touches_at, tree_after, tree_at}
 use Rattle.sal_rows.specs.PathClash.{difference, is_covered}
 use Rattle.sal_rows.specs.Quiet.{AreFresh, AreQuiet}
-use Rattle.sal_rows.specs.Spans.{is_of_chain, is_own, own_commits, spans, spans_between}
+use Rattle.sal_rows.specs.Spans.{is_of_chain, is_own, spans}
 use Rattle.sal_rows.proofs.Named.{path_found}
 use Rattle.sal_rows.proofs.Quiet.{no_clash-quiet, no_map, or_none_first, or_none_second, prefix_below, same_stores}
 use Rattle.sal_history.specs.declared.call.Entry.{Entry}
 use Rattle.sal_history.specs.Answered.{Answered}
-use Rattle.sal_history.specs.History.{commits, history, outcomes, sents, trees_at}
+use Rattle.sal_history.specs.History.{history, outcomes, sents, trees_at}
 use Rattle.sal_history.specs.Outcome.{decide}
-use Rattle.sal_history.specs.Submissions.{Base, Sent, done, done_chains, done_ops, failing}
+use Rattle.sal_history.specs.Submissions.{Sent, done, failing}
 use Rattle.sal_history.specs.World.{Domain, opening_of, rules_of}
 use Rattle.sal_history.proofs.Bases.{chains_in, ops_in}
 use Rattle.sal_history.proofs.Decisions.{went}
@@ -41,10 +40,10 @@ use Rattle.sal_history_laws.specs.Serial.{IsOfBegun}
 use Rattle.sal_history_laws.proofs.Conflicts.{done-quiet}
 use Rattle.sal_history_laws.proofs.Decided.{decided}
 use Rattle.sal_history_laws.proofs.Plays.{serialisable, trees_before}
-use Rattle.sal_isolation_laws.specs.Isolation.{AreConcurrent, AreUnseen, IsDoneAs, IsGoneAgain, LeftNoChange}
+use Rattle.sal_isolation_laws.specs.Isolation.{AreConcurrent, IsDoneAs, LeftNoChange}
 use Rattle.sal_isolation_laws.specs.IsolationLaws.{FirstCommitterWins, PathsAreAsSeen}
 use Rattle.sal_isolation_laws.proofs.Parted.{IsParted, based_on, parted}
-use Rattle.sal_isolation_laws.proofs.Runs.{IsAround, around, left_none}
+use Rattle.sal_isolation_laws.proofs.Runs.{around, left_none}
 
 -- ---- no conflict
 

@@ -1,10 +1,10 @@
 -- Each transaction reads one commit with its own chain's submissions on top: an invariant of the entries.
-use Rattle.std.proofs.Common.{◌≡◌, ◌⊎◌, inl, inr, ℕ, zero, suc, ◌+◌, ◌<◌, ◌≤◌, Bool, true, false, List, [], ◌∷◌, ◌++◌, length, drop, take, Option, None, Some, refl, ap, sym, ◌∙◌, subst, cond, arith, append-nil, length-append, if◌then◌else◌}
-use Rattle.std.specs.Prelude.{map, nat_eq, nat_lt, option_and_then, slice_get, unwrap_or}
+use Rattle.std.proofs.Common.{◌≡◌, ◌⊎◌, inl, inr, ℕ, zero, suc, ◌+◌, ◌≤◌, Bool, true, false, List, [], ◌∷◌, ◌++◌, length, drop, take, Option, None, Some, refl, ap, sym, ◌∙◌, subst, cond, arith, append-nil, length-append, if◌then◌else◌}
+use Rattle.std.specs.Prelude.{nat_eq, nat_lt, option_and_then, slice_get, unwrap_or}
 use Rattle.std.specs.List.{filter, fold, list_any}
 use Rattle.std.specs.Option.{option_or, option_to_list}
 use Rattle.std.proofs.lemmas.Bool.{cond_both, eq-eqb, or_parts}
-use Rattle.std.proofs.lemmas.List.{drop-append-le, length-map, length-take, length-take-le, map-append, take-append-le, take_all}
+use Rattle.std.proofs.lemmas.List.{drop-append-le, length-take, length-take-le, map-append, take-append-le, take_all}
 use Rattle.std.proofs.lemmas.List.Folds.{list_any-append}
 use Rattle.std.proofs.lemmas.List.Sums.{fold-append}
 use Rattle.std.proofs.lemmas.Option.{none-some, option_and_then_some, same_Some, slice_get_within}
@@ -25,9 +25,9 @@ use Rattle.sal_history.specs.declared.call.Entry.{Entry}
 use Rattle.sal_history.specs.declared.reply.Reply.{Reply}
 use Rattle.sal_history.specs.declared.reply.Reply.TheVariants.{Begun, Receipt, Refused}
 use Rattle.sal_history.specs.Answered.{Answered}
-use Rattle.sal_history.specs.History.{answer, answered_as, base_on, began_at, began_by, chain_refusal, chained_base, commits, decided_by, domain_of, history, is_live, is_spent, newest_base, nowhere, outcomes, pending, refused_or, reply_to, sent_by, sents, spends, stands_on, submitted, trees_at}
+use Rattle.sal_history.specs.History.{answer, answered_as, base_on, began_at, began_by, chain_refusal, chained_base, commits, domain_of, history, is_live, is_spent, newest_base, nowhere, outcomes, pending, refused_or, reply_to, sent_by, sents, spends, stands_on}
 use Rattle.sal_history.specs.Numbered.{numbered}
-use Rattle.sal_history.specs.Submissions.{Base, Sent, done, done_ops, is_in, view_of}
+use Rattle.sal_history.specs.Submissions.{Base, Sent, done, done_ops, is_in}
 use Rattle.sal_history.specs.World.{Domain, opening_of}
 use Rattle.sal_history.proofs.Bases.{ops_in, same_chain}
 use Rattle.sal_history.proofs.Logs.{IsOpen, IsSound, IsSound-answer, IsSound-nothing}

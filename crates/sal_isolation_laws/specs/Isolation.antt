@@ -3,7 +3,6 @@ use Rattle.std.specs.Prelude.{◌≡◌, ◌⊎◌, ◌<◌, ◌≤◌, ℕ, fal
 use Rattle.std.specs.List.{filter, fold}
 use Rattle.sal_types.specs.declared.value.Store.{Store}
 use Rattle.sal_types.specs.declared.value.Step.{Step}
-use Rattle.sal_types.specs.declared.row.Row.{Row}
 use Rattle.sal_types.specs.Tree.{has}
 use Rattle.sal_rows.specs.declared.outcome.Outcome.TheVariants.{Done}
 use Rattle.sal_rows.specs.Commits.{touches_at}

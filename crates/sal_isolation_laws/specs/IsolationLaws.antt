@@ -5,7 +5,6 @@ use Rattle.std.specs.Option.{option_map}
 use Rattle.sal_types.specs.declared.value.Store.{Store}
 use Rattle.sal_types.specs.declared.row.Row.{Row}
 use Rattle.sal_types.specs.Tree.{cell}
-use Rattle.sal_rows.specs.declared.clash.Rules.{Rules}
 use Rattle.sal_rows.specs.declared.clash.Rules.TheVariants.{Two}
 use Rattle.sal_rows.specs.declared.op.Op.{Op}
 use Rattle.sal_rows.specs.Apply.{checks_path, rows_of_act}
